@@ -1,0 +1,5 @@
+pub mod Refusal
+pub mod Duration
+pub mod Deadline
+pub mod Clock
+pub mod Samples
