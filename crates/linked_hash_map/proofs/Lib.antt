@@ -1,0 +1,13 @@
+pub mod Limits
+pub mod Records
+pub mod Frames
+pub mod Laid
+pub mod Refill
+pub mod Keeping
+pub mod Probed
+pub mod Finding
+pub mod Putting
+pub mod Walking
+pub mod Opening
+pub mod Checking
+pub mod Steps

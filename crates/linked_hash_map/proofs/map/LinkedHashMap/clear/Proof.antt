@@ -1,0 +1,17 @@
+use mathlib.Core.Path.{sym, _∙_}
+use borrow.Author.Needs.{needs}
+use Rattle.linked_hash_map.proofs.Limits.{no-room, room, is-room}
+use Rattle.linked_hash_map.proofs.Opening.{clearing-refused, clearing}
+use Rattle.linked_hash_map.proofs.map.LinkedHashMap.clear.Statement.{statement}
+use Rattle.linked_hash_map.proofs.map.LinkedHashMap.clear.Tie as tie
+
+pub clear-spec : {M : Type 1} → statement M
+clear-spec =
+    tie.close
+    (tie.spec
+    (λ c κs. search needs)
+    (λ c. clearing-refused _ _ (no-room (c .before .has-room .ensures) (c .if1 .taken)))
+    (λ c κs. is-room _ _ (room (c .before .before .has-room .ensures) (c .before .if1 .left)))
+    (λ c κs. is-room _ _ (room (c .before .before .before .before .before .has-room .ensures) (c .before .before .before .before .if1 .left)) .limit)
+    (λ c. search needs)
+    (λ c. rw (c .before .before .before .empty-words .ensures, c .empty-map .ensures) (clearing _ _ (room (c .before .before .before .before .before .before .has-room .ensures) (c .before .before .before .before .before .if1 .left)))))

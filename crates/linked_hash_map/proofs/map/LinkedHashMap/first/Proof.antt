@@ -1,0 +1,20 @@
+use mathlib.Core.Path.{sym, _∙_}
+use native.Mathlib.Omega.{arith}
+use borrow.Author.Needs.{needs}
+use Rattle.linked_hash_map.proofs.Limits.{no-room, room, is-room}
+use Rattle.linked_hash_map.proofs.Walking.{ending-refused, first-is}
+use Rattle.linked_hash_map.proofs.map.LinkedHashMap.first.Statement.{statement}
+use Rattle.linked_hash_map.proofs.map.LinkedHashMap.first.Tie as tie
+
+pub first-spec : {M : Type 1} → statement M
+first-spec =
+    tie.close
+    (tie.spec
+    (λ c κs. search needs)
+    (λ c. ending-refused _ (no-room (c .before .has-room .ensures) (c .if1 .taken)))
+    (λ c. let r = is-room _ _ (room (c .before .has-room .ensures) (c .if1 .left)) in omega (arith, r .limit, r .words))
+    (λ c. let r = is-room _ _ (room (c .before .has-room .ensures) (c .if1 .left)) in omega (arith, r .limit, r .words))
+    (λ c. let r = is-room _ _ (room (c .before .has-room .ensures) (c .if1 .left)) in omega (arith, r .limit, r .words))
+    (λ c. let r = is-room _ _ (room (c .before .before .has-room .ensures) (c .before .if1 .left)) in omega (arith, r .limit, r .words))
+    (λ c κs. search needs)
+    (λ c. rw (c .slot-at .ensures) (first-is (room (c .before .before .before .has-room .ensures) (c .before .before .if1 .left)))))

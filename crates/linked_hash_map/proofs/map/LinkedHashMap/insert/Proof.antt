@@ -1,0 +1,42 @@
+use mathlib.Core.Path.{_≡_, refl, ap}
+use mathlib.Core.List.{List}
+use Prim.Native.Nat.{ℕ, _+_, _*_}
+use native.Mathlib.Omega.{arith}
+use lib.ListN.{getD}
+use borrow.Author.Needs.{needs}
+use Rattle.rings.specs.Ring.{next, moved}
+use Rattle.cells.specs.Cells.{setCell}
+use Rattle.linked_hash_map.specs.declared.map.Record.{Record}
+use Rattle.linked_hash_map.specs.Words.{written, putIn}
+use Rattle.linked_hash_map.proofs.map.LinkedHashMap.insert.Statement.{statement}
+use Rattle.linked_hash_map.proofs.map.LinkedHashMap.insert.Tie as tie
+
+free-link : (ws : List ℕ) (n : ℕ) → next ws (n + 1) ≡ getD ws (5 * n + 9) 0
+free-link ws n = ap (λ (j : ℕ). getD ws j 0) (omega arith)
+
+put-in : {w₁ w₂ w₃ : List ℕ} (ws : List ℕ) (n c s : ℕ) (r : Record) → w₁ ≡ written ws s r → w₂ ≡ setCell w₁ n c (s + 1) → w₃ ≡ moved (n + 2) w₂ n s → w₃ ≡ putIn ws n c s r
+unfolding putIn
+put-in ws n c s r p q m = cc
+
+pub insert-spec : {M : Type 1} → statement M
+insert-spec =
+    tie.close
+    (tie.spec
+    (λ c. search needs)
+    (λ c. search needs)
+    (λ c. search needs)
+    (λ c. search needs)
+    (λ c. let a = c .before .before .before .args in let e = free-link (a .words .now) (a .self .capacity) in record { full = λ h. (refl, refl); answer = λ h. absurd (omega arith); grown = λ h. absurd (omega arith) })
+    (λ c κs. search needs)
+    (λ c. search needs)
+    (λ c κs. search needs)
+    (λ c. search needs)
+    (λ c κs. search needs)
+    (λ c κs. search needs)
+    (λ c. search needs)
+    (λ c.
+    let a = c .before .before .before .before .before .before .before .before .before .before .before .before .before .before .before .before .before .before .before .args in
+    let n = a .self .capacity in
+    let e = free-link (a .words .now) n in
+    let w = put-in _ _ _ _ _ (c .before .before .before .before .before .before .before .before .before .before .before .before .before .before .write-record .ensures) (c .before .before .before .before .before .before .before .before .before .before .set-cell .ensures) (c .before .before .before .before .before .before .move-after .ensures) in
+    record { full = λ h. absurd (omega (arith, c .before .before .before .before .before .before .before .before .before .before .before .before .before .before .before .before .if1 .left)); answer = λ h. refl; grown = λ h. rw e (rw w at (c .before .before .grown .ensures)) }))

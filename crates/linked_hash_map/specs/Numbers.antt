@@ -1,0 +1,42 @@
+-- What the calls do to the numbers, and when the cells are entered anew.
+use mathlib.Core.Path.{_≡_}
+use mathlib.Core.Bool.{Bool, cond}
+use mathlib.Core.List.{List}
+use Prim.Native.Nat.{ℕ, _+_, _-_, _*_, _<_, _≤_}
+use lib.Dec.{ltb}
+use Rattle.rings.specs.Ring.{next}
+use Rattle.linked_hash_map.specs.declared.map.LinkedHashMap.{LinkedHashMap}
+use Rattle.linked_hash_map.specs.declared.map.Record.{Record}
+use Rattle.linked_hash_map.specs.declared.map.Put.{Put}
+use Rattle.linked_hash_map.specs.declared.map.Placed.the-variants.{Inserted, Full}
+use Rattle.linked_hash_map.specs.declared.map.Slot.{Slot}
+use Rattle.linked_hash_map.specs.declared.map.Slot.the-variants.{At, Nothing}
+use Rattle.linked_hash_map.specs.Words.{refilled, putIn}
+
+-- the empty map's numbers
+abbrev pub emptyMap : ℕ → LinkedHashMap
+emptyMap n = record { capacity = n; len = 0; refill_in = 6 * n + 96 }
+
+-- one record less
+unfoldable pub shrunkMap : LinkedHashMap → LinkedHashMap
+shrunkMap m = record { capacity = m .capacity; len = m .len - 1; refill_in = m .refill_in }
+
+-- the slot that a link leads to
+unfoldable pub slotFrom : ℕ → ℕ → Slot
+slotFrom n x = cond (ltb x n) (At x) Nothing
+
+-- one record more
+unfoldable pub lenAfter : LinkedHashMap → ℕ
+lenAfter m = cond (ltb (m .len) (m .capacity)) (m .len + 1) (m .capacity)
+
+-- the numbers and the words after an insertion: most often the words stay
+pub record Grown (ws : List ℕ) (m : LinkedHashMap) (ws′ : List ℕ) (r : LinkedHashMap) : Type 0 where
+  pub capacity : r .capacity ≡ m .capacity
+  pub count : r .len ≡ lenAfter m
+  pub words : ws′ ≡ cond (ltb 1 (m .refill_in)) ws (refilled ws (m .capacity) (lenAfter m))
+
+-- an insertion with the cell to take in hand
+pub record Inserting (ws : List ℕ) (m : LinkedHashMap) (x : Record) (c : ℕ) (ws′ : List ℕ) (r : Put) : Type 0 where
+  pub full : m .capacity ≤ next ws (m .capacity + 1) → (r ≡ record { map = m; answer = Full }) × (ws′ ≡ ws)
+  pub answer : next ws (m .capacity + 1) < m .capacity → r .answer ≡ Inserted
+  pub grown : next ws (m .capacity + 1) < m .capacity → Grown (putIn ws (m .capacity) c (next ws (m .capacity + 1)) x) m ws′ (r .map)

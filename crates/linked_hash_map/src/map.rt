@@ -1,0 +1,452 @@
+// The map's calls. Each is one probe and a few links.
+ghost use mathlib.Core.Path.{_≡_};
+ghost use Prim.Native.Nat.{_+_, _-_, _<_, _≤_};
+ghost use lib.ListN.{length};
+ghost use Rattle.cells.specs.Cells.{cellCount};
+ghost use Rattle.linked_hash_map.specs.Words.{fit, Room, Nodes, recordAt, written, emptied, refilled, replaced, takenOut};
+ghost use Rattle.linked_hash_map.specs.Numbers.{emptyMap, shrunkMap, slotFrom, Grown, Inserting};
+ghost use Rattle.linked_hash_map.specs.Calls.{Opening, Clearing, Finding, Touching, Reading, Writing, Putting, Removing, Ending, Next, Previous, Checking};
+use crate::check;
+use crate::index;
+use crate::links;
+use cells::Probe;
+
+// The map's numbers; all else is in the words.
+pub struct LinkedHashMap {
+    pub capacity: usize,
+    pub len: usize,
+    // Insertions until the cells are cleared and the records entered anew, which wipes tombstones.
+    pub refill_in: usize,
+}
+
+pub struct Record {
+    pub key: u64,
+    pub first: u64,
+    pub second: u64,
+}
+
+// A record's place among the words, to read it or to walk on from it.
+pub enum Slot {
+    At(usize),
+    Nothing,
+    // The capacity is above 4,096, or the words are too few for it.
+    Refused,
+}
+
+pub enum Placed {
+    Inserted,
+    Replaced(Record),
+    // The key is new, and there is no free record.
+    Full,
+    Refused,
+}
+
+pub enum Taken {
+    Record(Record),
+    Nothing,
+    Refused,
+}
+
+pub struct Opened {
+    pub map: LinkedHashMap,
+    pub is_open: bool,
+}
+
+pub struct Put {
+    pub map: LinkedHashMap,
+    pub answer: Placed,
+}
+
+pub struct Removed {
+    pub map: LinkedHashMap,
+    pub answer: Taken,
+}
+
+fn has_room(capacity: usize, size: usize) -> bool
+    ensures { λ r. ⌜ r ≡ fit capacity size ⌝ }
+{
+    if 4096 < capacity {
+        return false;
+    }
+    8 * capacity + 58 <= size
+}
+
+fn empty_map(capacity: usize) -> LinkedHashMap
+    requires { ⌜ capacity ≤ 4096 ⌝ }
+    ensures { λ r. ⌜ r ≡ emptyMap capacity ⌝ }
+{
+    LinkedHashMap {
+        capacity,
+        len: 0,
+        refill_in: 6 * capacity + 96,
+    }
+}
+
+// All records free, and no cell used, whatever the words held.
+fn empty_words(words: &mut [u64], n: usize)
+    requires { ⌜ Room (length (now words)) n ⌝ }
+    ensures { λ _. ⌜ now (words .exit) ≡ emptied (now (words .entry)) n ⌝ }
+{
+    links::close_rings(words, n + 2, n, n + 1);
+    let mut i = 0;
+    while i < n {
+        links::attach(words, n + 2, n + 1, i);
+        i += 1;
+    }
+    index::clear_cells(words, n);
+}
+
+fn write_record(words: &mut [u64], slot: usize, item: Record)
+    requires { ⌜ Nodes (length (now words)) (slot + 1) ⌝ }
+    ensures { λ _. ⌜ now (words .exit) ≡ written (now (words .entry)) slot item ⌝ }
+{
+    words[5 * slot] = item.key;
+    words[5 * slot + 1] = item.first;
+    words[5 * slot + 2] = item.second;
+}
+
+fn read_record(words: &[u64], slot: usize) -> Record
+    requires { ⌜ Nodes (length (now words)) (slot + 1) ⌝ }
+    ensures { λ r. ⌜ r ≡ recordAt (now (words .entry)) slot ⌝ }
+{
+    Record {
+        key: words[5 * slot],
+        first: words[5 * slot + 1],
+        second: words[5 * slot + 2],
+    }
+}
+
+// Writes a record over the one at a slot, moves it to the front, and hands back the old one.
+fn replace(words: &mut [u64], n: usize, slot: usize, item: Record) -> Record
+    requires { ⌜ Room (length (now words)) n × (slot < n) ⌝ }
+    ensures { λ r. ⌜ (r ≡ recordAt (now (words .entry)) slot) × (now (words .exit) ≡ replaced (now (words .entry)) n slot item) ⌝ }
+{
+    let old = read_record(words, slot);
+    write_record(words, slot, item);
+    links::move_after(words, n + 2, n, slot);
+    old
+}
+
+// Takes the record at a slot, and its cell, out of the map, and hands it back.
+fn take(words: &mut [u64], n: usize, cell: usize, slot: usize) -> Record
+    requires { ⌜ Room (length (now words)) n × (cell < cellCount n) × (slot < n) ⌝ }
+    ensures { λ r. ⌜ (r ≡ recordAt (now (words .entry)) slot) × (now (words .exit) ≡ takenOut (now (words .entry)) n cell slot) ⌝ }
+{
+    let old = read_record(words, slot);
+    index::erase(words, n, cell);
+    links::move_after(words, n + 2, n + 1, slot);
+    old
+}
+
+// Enters the live records anew, front first.
+fn refill(words: &mut [u64], n: usize, len: usize)
+    requires { ⌜ Room (length (now words)) n ⌝ }
+    ensures { λ _. ⌜ now (words .exit) ≡ refilled (now (words .entry)) n len ⌝ }
+{
+    index::clear_cells(words, n);
+    let mut x = words[5 * n + 4] as usize;
+    let mut left = len;
+    while 0 < left {
+        if n <= x {
+            return;
+        }
+        index::enter(words, n, x);
+        x = words[5 * x + 4] as usize;
+        left -= 1;
+    }
+}
+
+// The slot that a link leads to.
+fn slot_at(n: usize, x: u64) -> Slot
+    ensures { λ r. ⌜ r ≡ slotFrom n x ⌝ }
+{
+    if x < n as u64 {
+        Slot::At(x as usize)
+    } else {
+        Slot::Nothing
+    }
+}
+
+impl LinkedHashMap {
+    // The empty map, in words of any contents.
+    pub fn open(words: &mut [u64], capacity: usize) -> Opened
+        ensures { λ r. ⌜ Opening (now (words .entry)) capacity (now (words .exit)) r ⌝ }
+    {
+        if !has_room(capacity, words.len()) {
+            return Opened {
+                map: LinkedHashMap {
+                    capacity: 0,
+                    len: 0,
+                    refill_in: 0,
+                },
+                is_open: false,
+            };
+        }
+        empty_words(words, capacity);
+        Opened {
+            map: empty_map(capacity),
+            is_open: true,
+        }
+    }
+
+    pub fn clear(self, words: &mut [u64]) -> Opened
+        ensures { λ r. ⌜ Clearing (now (words .entry)) self (now (words .exit)) r ⌝ }
+    {
+        let n = self.capacity;
+        if !has_room(n, words.len()) {
+            return Opened {
+                map: self,
+                is_open: false,
+            };
+        }
+        empty_words(words, n);
+        Opened {
+            map: empty_map(n),
+            is_open: true,
+        }
+    }
+
+    pub fn find(self, words: &[u64], key: u64) -> Slot
+        ensures { λ r. ⌜ Finding (now (words .entry)) self key r ⌝ }
+    {
+        let n = self.capacity;
+        if !has_room(n, words.len()) {
+            return Slot::Refused;
+        }
+        match index::probe(words, n, key) {
+            Probe::At(_, s) => Slot::At(s),
+            Probe::Free(_) => Slot::Nothing,
+            Probe::Full => Slot::Nothing,
+        }
+    }
+
+    // Moves the key's record to the front.
+    pub fn touch(self, words: &mut [u64], key: u64) -> Slot
+        ensures { λ r. ⌜ Touching (now (words .entry)) self key (now (words .exit)) r ⌝ }
+    {
+        let n = self.capacity;
+        if !has_room(n, words.len()) {
+            return Slot::Refused;
+        }
+        match index::probe(words, n, key) {
+            Probe::At(_, s) => {
+                links::move_after(words, n + 2, n, s);
+                Slot::At(s)
+            }
+            Probe::Free(_) => Slot::Nothing,
+            Probe::Full => Slot::Nothing,
+        }
+    }
+
+    // The record at a slot; zeros where there can be none.
+    pub fn record(self, words: &[u64], slot: usize) -> Record
+        ensures { λ r. ⌜ Reading (now (words .entry)) self slot r ⌝ }
+    {
+        let n = self.capacity;
+        if has_room(n, words.len()) {
+            if slot < n {
+                return read_record(words, slot);
+            }
+        }
+        Record {
+            key: 0,
+            first: 0,
+            second: 0,
+        }
+    }
+
+    // Writes the key's payload, and says whether it is held.
+    pub fn set_payload(self, words: &mut [u64], item: Record) -> bool
+        ensures { λ r. ⌜ Writing (now (words .entry)) self item (now (words .exit)) r ⌝ }
+    {
+        let n = self.capacity;
+        if !has_room(n, words.len()) {
+            return false;
+        }
+        match index::probe(words, n, item.key) {
+            Probe::At(_, s) => {
+                write_record(words, s, item);
+                true
+            }
+            Probe::Free(_) => false,
+            Probe::Full => false,
+        }
+    }
+
+    // Puts the record at the front, in the place of its key's old one where there is one.
+    pub fn put(self, words: &mut [u64], item: Record) -> Put
+        ensures { λ r. ⌜ Putting (now (words .entry)) self item (now (words .exit)) r ⌝ }
+    {
+        let n = self.capacity;
+        if !has_room(n, words.len()) {
+            return Put {
+                map: self,
+                answer: Placed::Refused,
+            };
+        }
+        match index::probe(words, n, item.key) {
+            Probe::At(_, s) => Put {
+                map: self,
+                answer: Placed::Replaced(replace(words, n, s, item)),
+            },
+            Probe::Free(c) => self.insert(words, item, c),
+            Probe::Full => Put {
+                map: self,
+                answer: Placed::Full,
+            },
+        }
+    }
+
+    // Puts a record whose key is new at the front, and its cell at c.
+    fn insert(self, words: &mut [u64], item: Record, c: usize) -> Put
+        requires { ⌜ Room (length (now words)) (self .capacity) × (c < cellCount (self .capacity)) ⌝ }
+        ensures { λ r. ⌜ Inserting (now (words .entry)) self item c (now (words .exit)) r ⌝ }
+    {
+        let n = self.capacity;
+        let x = words[5 * n + 9];
+        if n as u64 <= x {
+            return Put {
+                map: self,
+                answer: Placed::Full,
+            };
+        }
+        let s = x as usize;
+        write_record(words, s, item);
+        index::set_cell(words, n, c, x + 1);
+        links::move_after(words, n + 2, n, s);
+        Put {
+            map: self.grown(words),
+            answer: Placed::Inserted,
+        }
+    }
+
+    // The numbers after an insertion, and now and then the cells anew.
+    fn grown(self, words: &mut [u64]) -> LinkedHashMap
+        requires { ⌜ Room (length (now words)) (self .capacity) ⌝ }
+        ensures { λ r. ⌜ Grown (now (words .entry)) self (now (words .exit)) r ⌝ }
+    {
+        let n = self.capacity;
+        let len = if self.len < n { self.len + 1 } else { n };
+        let refill_in = self.refill_in;
+        if 1 < refill_in {
+            return LinkedHashMap {
+                capacity: n,
+                len,
+                refill_in: refill_in - 1,
+            };
+        }
+        refill(words, n, len);
+        LinkedHashMap {
+            capacity: n,
+            len,
+            refill_in: 6 * n + 96,
+        }
+    }
+
+    pub fn remove(self, words: &mut [u64], key: u64) -> Removed
+        ensures { λ r. ⌜ Removing (now (words .entry)) self key (now (words .exit)) r ⌝ }
+    {
+        let n = self.capacity;
+        if !has_room(n, words.len()) {
+            return Removed {
+                map: self,
+                answer: Taken::Refused,
+            };
+        }
+        match index::probe(words, n, key) {
+            Probe::At(c, s) => Removed {
+                map: self.shrunk(),
+                answer: Taken::Record(take(words, n, c, s)),
+            },
+            Probe::Free(_) => Removed {
+                map: self,
+                answer: Taken::Nothing,
+            },
+            Probe::Full => Removed {
+                map: self,
+                answer: Taken::Nothing,
+            },
+        }
+    }
+
+    fn shrunk(self) -> LinkedHashMap
+        ensures { λ r. ⌜ r ≡ shrunkMap self ⌝ }
+    {
+        let len = if 0 < self.len { self.len - 1 } else { 0 };
+        LinkedHashMap {
+            capacity: self.capacity,
+            len,
+            refill_in: self.refill_in,
+        }
+    }
+
+    pub fn first(self, words: &[u64]) -> Slot
+        ensures { λ r. ⌜ Ending (now (words .entry)) self 0 r ⌝ }
+    {
+        let n = self.capacity;
+        if !has_room(n, words.len()) {
+            return Slot::Refused;
+        }
+        slot_at(n, words[5 * n + 4])
+    }
+
+    pub fn last(self, words: &[u64]) -> Slot
+        ensures { λ r. ⌜ Ending (now (words .entry)) self (self .len - 1) r ⌝ }
+    {
+        let n = self.capacity;
+        if !has_room(n, words.len()) {
+            return Slot::Refused;
+        }
+        slot_at(n, words[5 * n + 3])
+    }
+
+    pub fn next(self, words: &[u64], slot: usize) -> Slot
+        ensures { λ r. ⌜ Next (now (words .entry)) self slot r ⌝ }
+    {
+        let n = self.capacity;
+        if !has_room(n, words.len()) {
+            return Slot::Refused;
+        }
+        if n <= slot {
+            return Slot::Nothing;
+        }
+        slot_at(n, words[5 * slot + 4])
+    }
+
+    pub fn previous(self, words: &[u64], slot: usize) -> Slot
+        ensures { λ r. ⌜ Previous (now (words .entry)) self slot r ⌝ }
+    {
+        let n = self.capacity;
+        if !has_room(n, words.len()) {
+            return Slot::Refused;
+        }
+        if n <= slot {
+            return Slot::Nothing;
+        }
+        slot_at(n, words[5 * slot + 3])
+    }
+
+    // Whether words and numbers form a map.
+    pub fn check(self, words: &[u64]) -> bool
+        ensures { λ r. ⌜ Checking (now (words .entry)) self r ⌝ }
+    {
+        let n = self.capacity;
+        if !has_room(n, words.len()) {
+            return false;
+        }
+        let len = self.len;
+        if n < len {
+            return false;
+        }
+        if !check::walks(words, n, n, len) {
+            return false;
+        }
+        if !check::walks(words, n, n + 1, n - len) {
+            return false;
+        }
+        if !check::finds_all(words, n, len) {
+            return false;
+        }
+        check::held(words, n) == len
+    }
+}
