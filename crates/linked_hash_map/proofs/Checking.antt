@@ -64,9 +64,9 @@ found-all ws n (suc k) x h =
 
 module _ (ws : List ℕ) (m : LinkedHashMap) where
   -- what the tests have shown
-  pub tests-map : fit (m .capacity) (length ws) ≡ true → m .len ≤ m .capacity → walks ws (m .capacity) (m .capacity) (m .capacity) (m .len) ≡ true → walks ws (m .capacity) (m .capacity + 1) (m .capacity + 1) (m .capacity - m .len) ≡ true → findsAll ws (m .capacity) (m .len) (next ws (m .capacity)) ≡ true → length (heldIn ws (m .capacity) (cellCount (m .capacity))) ≡ m .len → IsMap ws m
+  pub tests-map : fit (m .capacity) (length ws) ≡ true → m .len ≤ m .capacity → (m .refill_in ≡ 0 → ⊥) → walks ws (m .capacity) (m .capacity) (m .capacity) (m .len) ≡ true → walks ws (m .capacity) (m .capacity + 1) (m .capacity + 1) (m .capacity - m .len) ≡ true → findsAll ws (m .capacity) (m .len) (next ws (m .capacity)) ≡ true → length (heldIn ws (m .capacity) (cellCount (m .capacity))) ≡ m .len → IsMap ws m
   unfolding liveOf freeOf
-  tests-map f h a b c d = record {
+  tests-map f h o a b c d = record {
     room = room;
     count = h;
     rings = two;
@@ -74,6 +74,7 @@ module _ (ws : List ℕ) (m : LinkedHashMap) where
         count-indexes ws (m .capacity) (liveOf ws m) (distinct (liveOf ws m) (count-le-one two))
         (λ s q. finds-found ws (m .capacity) s (all-found ws (m .capacity) (m .len) (next ws (m .capacity)) c s q))
         (d ∙ sym (live-length ws m));
+    opened = omega arith;
   }
     where
       room : Room (length ws) (m .capacity)
@@ -103,8 +104,8 @@ pub checking-no : {ws : List ℕ} {m : LinkedHashMap} → (IsMap ws m → ⊥) �
 checking-no none = record { sound = λ e. absurd (true≢false (sym e)); complete = λ is. absurd (none is) }
 
 -- the last test decides
-pub checking : (ws : List ℕ) (m : LinkedHashMap) {h : ℕ} → fit (m .capacity) (length ws) ≡ true → m .len ≤ m .capacity → walks ws (m .capacity) (m .capacity) (m .capacity) (m .len) ≡ true → walks ws (m .capacity) (m .capacity + 1) (m .capacity + 1) (m .capacity - m .len) ≡ true → findsAll ws (m .capacity) (m .len) (next ws (m .capacity)) ≡ true → h ≡ length (heldIn ws (m .capacity) (cellCount (m .capacity))) → Checking ws m (eqb h (m .len))
-checking ws m {h} f a b c d e = record {
-  sound = λ q. tests-map ws m f a b c d (sym e ∙ eqb-true h (m .len) q);
+pub checking : (ws : List ℕ) (m : LinkedHashMap) {h : ℕ} → fit (m .capacity) (length ws) ≡ true → m .len ≤ m .capacity → (m .refill_in ≡ 0 → ⊥) → walks ws (m .capacity) (m .capacity) (m .capacity) (m .len) ≡ true → walks ws (m .capacity) (m .capacity + 1) (m .capacity + 1) (m .capacity - m .len) ≡ true → findsAll ws (m .capacity) (m .len) (next ws (m .capacity)) ≡ true → h ≡ length (heldIn ws (m .capacity) (cellCount (m .capacity))) → Checking ws m (eqb h (m .len))
+checking ws m {h} f a o b c d e = record {
+  sound = λ q. tests-map ws m f a o b c d (sym e ∙ eqb-true h (m .len) q);
   complete = λ is. eq-eqb h (m .len) (e ∙ map-held ws m is);
 }

@@ -89,7 +89,7 @@ module _ {ws : List ℕ} {m : LinkedHashMap} (k : ℕ) where
     touching-at = record {
       refused = λ q. absurd (true≢false (sym f ∙ q));
       answer = λ is. sym (hit is k e .slot);
-      map = λ is. to-map m (front-laid is) (front-count is);
+      map = λ is. to-map m (front-laid is) (front-count is) (is .opened);
       model = λ is.
           let h = hit is k e in
           rw (live-is m (front-laid is) (front-count is), h .look)
@@ -160,7 +160,7 @@ module _ {ws : List ℕ} {m : LinkedHashMap} (x : Record) where
     writing-at = record {
       refused = λ q. absurd (true≢false (sym f ∙ q));
       answer = λ is. sym (hit is (x .key) e .held);
-      map = λ is. to-map m (written-laid is) (sym (live-length ws m));
+      map = λ is. to-map m (written-laid is) (sym (live-length ws m)) (is .opened);
       model = λ is.
           let h = hit is (x .key) e in
           let b : s < m .capacity = live-below (of-map is) (h .live) in

@@ -44,12 +44,13 @@ module _ {ws : List ℕ} {l f : List ℕ} (m : LinkedHashMap) (laid : Laid ws (m
       let e : m .capacity - m .len ≡ length f = omega (arith, laid .rings .size) in
       rw e (along-ring (two-swap (laid .rings)))
 
-  pub to-map : IsMap ws m
-  to-map = record {
+  pub to-map : 1 ≤ m .refill_in → IsMap ws m
+  to-map opened = record {
     room = laid .room;
     count = omega (arith, laid .rings .size);
     rings = rw (live-is, free-is) (laid .rings);
     index = rw live-is (laid .index);
+    opened = opened;
   }
 
 -- ---- a record moves to the front

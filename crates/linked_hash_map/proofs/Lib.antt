@@ -11,3 +11,4 @@ pub mod Walking
 pub mod Opening
 pub mod Checking
 pub mod Steps
+pub mod Laws

@@ -19,7 +19,7 @@ use Rattle.linked_hash_map.proofs.Finding.{unfit}
 
 module _ (ws : List ℕ) (n : ℕ) (f : fit n (length ws) ≡ true) where
   empty-is-map : IsMap (emptied ws n) (emptyMap n)
-  empty-is-map = to-map (emptyMap n) (laid-emptied ws n (is-room n (length ws) f)) refl
+  empty-is-map = to-map (emptyMap n) (laid-emptied ws n (is-room n (length ws) f)) refl (omega arith)
 
   empty-model : modelOf (emptied ws n) (emptyMap n) ≡ []
   unfolding modelOf

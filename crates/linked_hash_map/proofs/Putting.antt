@@ -83,7 +83,7 @@ module _ {ws : List ℕ} {m : LinkedHashMap} (k : ℕ) where
       refused = λ q. absurd (true≢false (sym f ∙ q));
       answer = λ is. sym (hit is k e .look);
       capacity = refl;
-      map = λ is. to-map (shrunkMap m) (taken-laid is) (taken-count is);
+      map = λ is. to-map (shrunkMap m) (taken-laid is) (taken-count is) (is .opened);
       model = λ is.
           let h = hit is k e in
           rw (live-is (shrunkMap m) (taken-laid is) (taken-count is))
@@ -138,7 +138,7 @@ module _ {ws : List ℕ} {m : LinkedHashMap} (x : Record) where
       refused = λ q. absurd (true≢false (sym f ∙ q));
       answer = λ is. rw (hit is (x .key) e .look);
       capacity = refl;
-      map = λ is. to-map m (replaced-laid is) (replaced-count is);
+      map = λ is. to-map m (replaced-laid is) (replaced-count is) (is .opened);
       model = λ is.
           let h = hit is (x .key) e in
           let n = m .capacity in
@@ -274,7 +274,7 @@ module _ (ws : List ℕ) (m : LinkedHashMap) (x : Record) (c : ℕ) (f : fit (m 
       refused = λ q. absurd (true≢false (sym f ∙ q));
       answer = λ is. ins .answer h ∙ sym (placing-new (m .capacity) x (modelOf ws m) (miss is (x .key) (free-not-at e) .look) (room-left is));
       capacity = ins .grown h .capacity;
-      map = λ is. to-map (r .map) (laid-after is) (ins .grown h .count ∙ count-after is);
+      map = λ is. to-map (r .map) (laid-after is) (ins .grown h .count ∙ count-after is) (ins .grown h .opened);
       model = λ is.
           let h′ = miss is (x .key) (free-not-at e) in
           ap (records ws′) (new-live is)

@@ -22,12 +22,14 @@ liveOf ws m = along ws (next ws (m .capacity)) (m .len)
 unfoldable pub freeOf : List ℕ → LinkedHashMap → List ℕ
 freeOf ws m = along ws (next ws (m .capacity + 1)) (m .capacity - m .len)
 
--- the words and numbers form a map: two rings share the nodes, and the cells index the live records
+-- the words and numbers form a map: two rings share the nodes, and the cells index the live records. (The last field
+-- tells a map's numbers from those of a refused opening, which are all 0.)
 pub record IsMap (ws : List ℕ) (m : LinkedHashMap) : Type 0 where
   pub room : Room (length ws) (m .capacity)
   pub count : m .len ≤ m .capacity
   pub rings : Two (m .capacity + 2) ws (m .capacity) (liveOf ws m) (m .capacity + 1) (freeOf ws m)
   pub index : IndexOf ws (m .capacity) (liveOf ws m)
+  pub opened : 1 ≤ m .refill_in
 
 -- the model that a map stands for
 unfoldable pub modelOf : List ℕ → LinkedHashMap → Model

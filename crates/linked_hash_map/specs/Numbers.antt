@@ -33,6 +33,7 @@ lenAfter m = cond (ltb (m .len) (m .capacity)) (m .len + 1) (m .capacity)
 pub record Grown (ws : List ℕ) (m : LinkedHashMap) (ws′ : List ℕ) (r : LinkedHashMap) : Type 0 where
   pub capacity : r .capacity ≡ m .capacity
   pub count : r .len ≡ lenAfter m
+  pub opened : 1 ≤ r .refill_in
   pub words : ws′ ≡ cond (ltb 1 (m .refill_in)) ws (refilled ws (m .capacity) (lenAfter m))
 
 -- an insertion with the cell to take in hand

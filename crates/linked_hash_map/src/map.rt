@@ -438,6 +438,9 @@ impl LinkedHashMap {
         if n < len {
             return false;
         }
+        if self.refill_in == 0 {
+            return false;
+        }
         if !check::walks(words, n, n, len) {
             return false;
         }

@@ -1,6 +1,7 @@
 -- Each way out has the test that led there; both arms before it count one record more, up to the capacity.
 use mathlib.Core.Path.{_≡_, refl, sym, _∙_}
 use mathlib.Core.Logic.{⊎-elim}
+use native.Mathlib.Omega.{arith}
 use borrow.Author.Needs.{needs}
 use borrow.Author.Tests.{lt-ltb, le-ltb}
 use Rattle.linked_hash_map.specs.Numbers.{lenAfter}
@@ -17,9 +18,9 @@ grown-spec =
     (tie.spec
     (λ c. search needs)
     (λ c. search needs)
-    (λ c. record { capacity = refl; count = counted (c .before); words = rw (lt-ltb _ _ (c .if2 .taken)) refl })
+    (λ c. record { capacity = refl; count = counted (c .before); opened = omega arith; words = rw (lt-ltb _ _ (c .if2 .taken)) refl })
     (λ c κs. search needs)
     (λ c. search needs)
     (λ c. search needs)
     (λ c. search needs)
-    (λ c. record { capacity = refl; count = counted (c .before .before .before .before .before); words = rw (le-ltb _ _ (c .before .before .before .before .if2 .left)) (rw (counted (c .before .before .before .before .before)) at (c .before .before .refill .ensures)) }))
+    (λ c. record { capacity = refl; count = counted (c .before .before .before .before .before); opened = omega arith; words = rw (le-ltb _ _ (c .before .before .before .before .if2 .left)) (rw (counted (c .before .before .before .before .before)) at (c .before .before .refill .ensures)) }))
