@@ -2,11 +2,11 @@
 use mathlib.Core.Bool.{Bool, true, false, _&&_}
 use mathlib.Core.List.{List}
 use Prim.Native.Nat.{ℕ, zero, suc}
-use lib.Dec.{leb, ltb, eqb}
+use lib.Dec.{ltb, eqb}
 use Rattle.rings.specs.Ring.{next}
 use Rattle.cells.specs.declared.Probe.{Probe}
 use Rattle.cells.specs.declared.Probe.the-variants as probed
-use Rattle.cells.specs.Cells.{keyAt, cellAt}
+use Rattle.cells.specs.Cells.{keyAt}
 use Rattle.cells.specs.Probe.{probe}
 
 abbrev pub endsAt : ℕ → Probe → Bool
@@ -22,7 +22,3 @@ findsOf ws n s = endsAt s (probe ws n (keyAt ws s))
 unfoldable pub findsAll : List ℕ → ℕ → ℕ → ℕ → Bool
 findsAll ws n zero x = true
 findsAll ws n (suc k) x = ltb x n && (findsOf ws n x && findsAll ws n k (next ws x))
-
--- cell p holds a record
-abbrev pub holdsOf : List ℕ → ℕ → ℕ → Bool
-holdsOf ws n p = leb 1 (cellAt ws n p) && leb (cellAt ws n p) n

@@ -6,7 +6,7 @@ ghost use Rattle.rings.specs.Ring.{next, walks as walksOf};
 ghost use Rattle.cells.specs.Cells.{cellCount};
 ghost use Rattle.cells.specs.Index.{heldIn};
 ghost use Rattle.linked_hash_map.specs.Words.{Room};
-ghost use Rattle.linked_hash_map.specs.Checks.{findsOf, findsAll, holdsOf};
+ghost use Rattle.linked_hash_map.specs.Checks.{findsOf, findsAll};
 use crate::index;
 use cells::Probe;
 
@@ -76,21 +76,13 @@ pub fn held(words: &[u64], n: usize) -> usize
     let mut held = 0;
     let mut p = 0;
     while p < count {
-        if holds(words, n, p) {
-            held += 1;
+        let v = index::cell(words, n, p);
+        if 1 <= v {
+            if v <= n as u64 {
+                held += 1;
+            }
         }
         p += 1;
     }
     held
-}
-
-fn holds(words: &[u64], n: usize, p: usize) -> bool
-    requires { ⌜ Room (length (now words)) n × (p < cellCount n) ⌝ }
-    ensures { λ r. ⌜ r ≡ holdsOf (now (words .entry)) n p ⌝ }
-{
-    let v = index::cell(words, n, p);
-    if v == 0 {
-        return false;
-    }
-    v <= n as u64
 }

@@ -1,8 +1,7 @@
-use mathlib.Core.Path.{_≡_}
-use mathlib.Core.Logic.{_≢_}
+-- Each way out has the test that led there, of the cell after p.
 use borrow.Author.Needs.{needs}
-use borrow.Author.Tests.{eq-eqb, ne-eqb}
-use Rattle.cells.specs.Cells.{cellAt, cellAfter, erased}
+use borrow.Author.Tests.{ne-eqb}
+use Rattle.cells.specs.Cells.{erased}
 use Rattle.cells.proofs.Probing.{after-lt}
 use Rattle.linked_hash_map.proofs.index.erase.Statement.{statement}
 use Rattle.linked_hash_map.proofs.index.erase.Tie as tie
@@ -17,6 +16,6 @@ erase-spec =
     (λ c κs. search needs)
     (λ c κs. search needs)
     (λ c. search needs)
-    (λ c. let a = c .before .before .before .before .before .before .before .before .before .args in let z : cellAt (a .words .now) (a .n) (cellAfter (a .n) (a .p)) ≡ 0 = cc in rw (eq-eqb _ _ z) (c .before .before .set-cell .ensures))
+    (λ c. rw (← c .before .before .before .before .before .before .after .ensures, ← c .before .before .before .before .before .cell .ensures, c .before .before .before .before .if1 .taken) (c .before .before .set-cell .ensures))
     (λ c. search needs)
-    (λ c. let a = c .before .before .before .before .before .before .before .before .before .args in let z : cellAt (a .words .now) (a .n) (cellAfter (a .n) (a .p)) ≢ 0 = λ e. c .before .before .before .before .if1 .left (cc) in rw (ne-eqb _ _ z) (c .before .before .set-cell2 .ensures)))
+    (λ c. rw (← c .before .before .before .before .before .before .after .ensures, ← c .before .before .before .before .before .cell .ensures, ne-eqb _ _ (c .before .before .before .before .if1 .left)) (c .before .before .set-cell2 .ensures)))

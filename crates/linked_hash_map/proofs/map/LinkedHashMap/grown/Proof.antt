@@ -1,5 +1,5 @@
 -- Each way out has the test that led there; both arms before it count one record more, up to the capacity.
-use mathlib.Core.Path.{_≡_, refl, sym, _∙_}
+use mathlib.Core.Path.{_≡_, refl, _∙_}
 use mathlib.Core.Logic.{⊎-elim}
 use native.Mathlib.Omega.{arith}
 use borrow.Author.Needs.{needs}
@@ -23,4 +23,4 @@ grown-spec =
     (λ c. search needs)
     (λ c. search needs)
     (λ c. search needs)
-    (λ c. record { capacity = refl; count = counted (c .before .before .before .before .before); opened = omega arith; words = rw (le-ltb _ _ (c .before .before .before .before .if2 .left)) (rw (counted (c .before .before .before .before .before)) at (c .before .before .refill .ensures)) }))
+    (λ c. let e = counted (c .before .before .before .before .before) in record { capacity = refl; count = e; opened = omega arith; words = rw (le-ltb _ _ (c .before .before .before .before .if2 .left)) (rw e at (c .before .before .refill .ensures)) }))

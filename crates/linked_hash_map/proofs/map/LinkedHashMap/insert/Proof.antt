@@ -1,3 +1,4 @@
+-- The node n + 1 leads to a free record, or to none; what is done with one is `putIn` by its calls.
 use mathlib.Core.Path.{_≡_, refl, ap}
 use mathlib.Core.List.{List}
 use Prim.Native.Nat.{ℕ, _+_, _*_}
@@ -18,6 +19,23 @@ put-in : {w₁ w₂ w₃ : List ℕ} (ws : List ℕ) (n c s : ℕ) (r : Record) 
 unfolding putIn
 put-in ws n c s r p q m = cc
 
+full : tie.Need-returns
+full c =
+    let a = c .before .before .before .args in
+    let e = free-link (a .words .now) (a .self .capacity) in
+    record { full = λ h. (refl, refl); answer = λ h. absurd (omega arith); grown = λ h. absurd (omega arith) }
+
+inserted : tie.Need-returns-2
+inserted c =
+    let moving = c .before .before .before .before .before .before in
+    let setting = moving .before .before .before .before in
+    let writing = setting .before .before .before .before in
+    let tested = writing .before .before in
+    let a = tested .before .before .before .args in
+    let e = free-link (a .words .now) (a .self .capacity) in
+    let w = put-in _ _ _ _ _ (writing .write-record .ensures) (setting .set-cell .ensures) (moving .move-after .ensures) in
+    record { full = λ h. absurd (omega (arith, tested .if1 .left)); answer = λ h. refl; grown = λ h. rw e (rw w at (c .before .before .grown .ensures)) }
+
 pub insert-spec : {M : Type 1} → statement M
 insert-spec =
     tie.close
@@ -26,7 +44,7 @@ insert-spec =
     (λ c. search needs)
     (λ c. search needs)
     (λ c. search needs)
-    (λ c. let a = c .before .before .before .args in let e = free-link (a .words .now) (a .self .capacity) in record { full = λ h. (refl, refl); answer = λ h. absurd (omega arith); grown = λ h. absurd (omega arith) })
+    full
     (λ c κs. search needs)
     (λ c. search needs)
     (λ c κs. search needs)
@@ -34,9 +52,4 @@ insert-spec =
     (λ c κs. search needs)
     (λ c κs. search needs)
     (λ c. search needs)
-    (λ c.
-    let a = c .before .before .before .before .before .before .before .before .before .before .before .before .before .before .before .before .before .before .before .args in
-    let n = a .self .capacity in
-    let e = free-link (a .words .now) n in
-    let w = put-in _ _ _ _ _ (c .before .before .before .before .before .before .before .before .before .before .before .before .before .before .write-record .ensures) (c .before .before .before .before .before .before .before .before .before .before .set-cell .ensures) (c .before .before .before .before .before .before .move-after .ensures) in
-    record { full = λ h. absurd (omega (arith, c .before .before .before .before .before .before .before .before .before .before .before .before .before .before .before .before .if1 .left)); answer = λ h. refl; grown = λ h. rw e (rw w at (c .before .before .grown .ensures)) }))
+    inserted)
