@@ -1,0 +1,4 @@
+//! The proved crates, called from Rust.
+
+mod exports;
+pub mod linked_hash_map;

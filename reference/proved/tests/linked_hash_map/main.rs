@@ -1,0 +1,9 @@
+//! The proved map against a plain model, against junk, and its check against another one.
+
+mod check;
+mod junk;
+mod layout;
+mod model;
+mod random;
+#[path = "../../../samples/src/splitmix64.rs"]
+mod splitmix64;
