@@ -1,0 +1,14 @@
+pub mod Order
+pub mod Counts
+pub mod Sorting
+pub mod Words
+pub mod Places
+pub mod Limits
+pub mod Rising
+pub mod Sinking
+pub mod Least
+pub mod Pushing
+pub mod Root
+pub mod Popping
+pub mod Checking
+pub mod Laws

@@ -1,0 +1,10 @@
+pub mod Lists
+pub mod Items
+pub mod Limits
+pub mod Slots
+pub mod Evicting
+pub mod Placing
+pub mod Reading
+pub mod Changing
+pub mod Laws
+pub mod Samples

@@ -1,0 +1,6 @@
+pub mod Model
+pub mod Refusals
+pub mod Lru
+pub mod Calls
+pub mod Steps
+pub mod Samples

@@ -1,0 +1,503 @@
+// The recency list's calls. Each asks first whether it is refused, and then leaves the work to the map.
+ghost use mathlib.Core.Path.{_≡_};
+ghost use Rattle.fast_lru.specs.Refusals.{outOfRange, admitted};
+ghost use Rattle.fast_lru.specs.Refusals as refusals;
+ghost use Rattle.fast_lru.specs.Model.{tell, valueIn};
+ghost use Rattle.fast_lru.specs.Calls.{Opening, Clearing, Length, Emptiness, Capacity, Containing, Getting, Peeking, Inserting, Removing, Popping, PeekingOldest, Touching, Ranking, Checking};
+ghost use Rattle.fast_lru.specs.Steps.{isAt, taking, ValueAt, ItemAt, Picking, Choosing, Taking, Evicting, PlacingFull, Placing, RankFrom, RankOf};
+use crate::answers::Count;
+use crate::answers::Found;
+use crate::answers::Got;
+use crate::answers::Oldest;
+use crate::answers::Opened;
+use crate::answers::Popped;
+use crate::answers::Rank;
+use crate::answers::Ranked;
+use crate::answers::Told;
+use crate::answers::Touched;
+use linked_hash_map::LinkedHashMap;
+use linked_hash_map::Placed;
+use linked_hash_map::Record;
+use linked_hash_map::Slot;
+use linked_hash_map::Taken;
+use time::Outcome;
+use time::Refusal;
+
+// The list's numbers; the items are in the words.
+pub struct FastLru {
+    pub map: LinkedHashMap,
+}
+
+const MAX_CAPACITY: usize = 4096;
+
+// Refusals 1 and 2, in this order.
+fn opening(capacity: usize, size: usize) -> Outcome
+    ensures { λ r. ⌜ r ≡ refusals.opening capacity size ⌝ }
+{
+    if MAX_CAPACITY < capacity {
+        return Outcome::Refused(Refusal::LimitOutOfRange);
+    }
+    if size < 64 + 8 * capacity {
+        return Outcome::Refused(Refusal::TooFewWords);
+    }
+    Outcome::Done
+}
+
+// Whether the map has a slot for an item. (Its own refusals come after ours, so that none is ever met.)
+fn is_slot(slot: Slot) -> Told
+    ensures { λ r. ⌜ r ≡ tell (isAt slot) ⌝ }
+{
+    match slot {
+        Slot::At(_) => Told::Yes,
+        Slot::Nothing => Told::No,
+        Slot::Refused => Told::No,
+    }
+}
+
+// The value of a record that the map took out.
+fn value_of(taken: Taken) -> Found
+    ensures { λ r. ⌜ r ≡ valueIn (taking taken) ⌝ }
+{
+    match taken {
+        Taken::Record(old) => Found::Value(old.first),
+        Taken::Nothing => Found::Nothing,
+        Taken::Refused => Found::Nothing,
+    }
+}
+
+impl FastLru {
+    // The empty list, in words of any contents.
+    pub fn new(words: &mut [u64], capacity: usize) -> Opened
+        ensures { λ r. ⌜ Opening (now (words .entry)) capacity (now (words .exit)) r ⌝ }
+    {
+        match opening(capacity, words.len()) {
+            Outcome::Refused(why) => Opened {
+                lru: FastLru {
+                    map: LinkedHashMap {
+                        capacity: 0,
+                        len: 0,
+                        refill_in: 0,
+                    },
+                },
+                answer: Outcome::Refused(why),
+            },
+            Outcome::Done => {
+                let opened = LinkedHashMap::open(words, capacity);
+                let map = opened.map;
+                Opened {
+                    lru: FastLru { map },
+                    answer: Outcome::Done,
+                }
+            }
+        }
+    }
+
+    // A capacity above the limit, or numbers that are all 0, which a refused `new` hands back.
+    fn out_of_range(self) -> bool
+        ensures { λ r. ⌜ r ≡ outOfRange self ⌝ }
+    {
+        let map = self.map;
+        if MAX_CAPACITY < map.capacity {
+            return true;
+        }
+        if 0 < map.capacity {
+            return false;
+        }
+        if 0 < map.len {
+            return false;
+        }
+        map.refill_in == 0
+    }
+
+    fn admitted(self, size: usize) -> Outcome
+        ensures { λ r. ⌜ r ≡ admitted self size ⌝ }
+    {
+        if self.out_of_range() {
+            return Outcome::Refused(Refusal::LimitOutOfRange);
+        }
+        let map = self.map;
+        let capacity = map.capacity;
+        opening(capacity, size)
+    }
+
+    pub fn len(self) -> Count
+        ensures { λ r. ⌜ Length self r ⌝ }
+    {
+        if self.out_of_range() {
+            return Count::Refused(Refusal::LimitOutOfRange);
+        }
+        let map = self.map;
+        Count::Number(map.len)
+    }
+
+    pub fn is_empty(self) -> Told
+        ensures { λ r. ⌜ Emptiness self r ⌝ }
+    {
+        if self.out_of_range() {
+            return Told::Refused(Refusal::LimitOutOfRange);
+        }
+        let map = self.map;
+        if map.len == 0 { Told::Yes } else { Told::No }
+    }
+
+    pub fn capacity(self) -> Count
+        ensures { λ r. ⌜ Capacity self r ⌝ }
+    {
+        if self.out_of_range() {
+            return Count::Refused(Refusal::LimitOutOfRange);
+        }
+        let map = self.map;
+        Count::Number(map.capacity)
+    }
+
+    pub fn contains(self, words: &[u64], key: u64) -> Told
+        ensures { λ r. ⌜ Containing (now (words .entry)) self key r ⌝ }
+    {
+        match self.admitted(words.len()) {
+            Outcome::Refused(why) => Told::Refused(why),
+            Outcome::Done => {
+                let map = self.map;
+                is_slot(map.find(words, key))
+            }
+        }
+    }
+
+    // The value at a slot.
+    fn value_at(self, words: &[u64], slot: Slot) -> Found
+        ensures { λ r. ⌜ ValueAt (now (words .entry)) self slot r ⌝ }
+    {
+        match slot {
+            Slot::At(s) => {
+                let map = self.map;
+                let record = map.record(words, s);
+                Found::Value(record.first)
+            }
+            Slot::Nothing => Found::Nothing,
+            Slot::Refused => Found::Nothing,
+        }
+    }
+
+    // Moves the item to the front.
+    pub fn get(self, words: &mut [u64], key: u64) -> Got
+        ensures { λ r. ⌜ Getting (now (words .entry)) self key (now (words .exit)) r ⌝ }
+    {
+        match self.admitted(words.len()) {
+            Outcome::Refused(why) => Got {
+                lru: self,
+                answer: Found::Refused(why),
+            },
+            Outcome::Done => {
+                let map = self.map;
+                let slot = map.touch(words, key);
+                Got {
+                    lru: self,
+                    answer: self.value_at(words, slot),
+                }
+            }
+        }
+    }
+
+    // Moves nothing.
+    pub fn peek(self, words: &[u64], key: u64) -> Found
+        ensures { λ r. ⌜ Peeking (now (words .entry)) self key r ⌝ }
+    {
+        match self.admitted(words.len()) {
+            Outcome::Refused(why) => Found::Refused(why),
+            Outcome::Done => {
+                let map = self.map;
+                let slot = map.find(words, key);
+                self.value_at(words, slot)
+            }
+        }
+    }
+
+    // Puts the item at the front, and answers the key's old value. A new key in a full list pushes another item out.
+    pub fn insert(self, words: &mut [u64], key: u64, value: u64) -> Got
+        ensures { λ r. ⌜ Inserting (now (words .entry)) self (record { key = key; value = value }) (now (words .exit)) r ⌝ }
+    {
+        match self.admitted(words.len()) {
+            Outcome::Refused(why) => Got {
+                lru: self,
+                answer: Found::Refused(why),
+            },
+            Outcome::Done => self.place(
+                words,
+                Record {
+                    key,
+                    first: value,
+                    second: 0,
+                },
+            ),
+        }
+    }
+
+    // The map says by one lookup whether the key is there, or else whether there is room.
+    fn place(self, words: &mut [u64], item: Record) -> Got
+        ensures { λ r. ⌜ Placing (now (words .entry)) self item (now (words .exit)) r ⌝ }
+    {
+        let held = self.map;
+        let put = held.put(words, item);
+        let map = put.map;
+        let answer = put.answer;
+        match answer {
+            Placed::Inserted => Got {
+                lru: FastLru { map },
+                answer: Found::Nothing,
+            },
+            Placed::Replaced(old) => Got {
+                lru: FastLru { map },
+                answer: Found::Value(old.first),
+            },
+            Placed::Full => Got {
+                lru: self.place_evicting(words, item),
+                answer: Found::Nothing,
+            },
+            Placed::Refused => Got {
+                lru: self,
+                answer: Found::Nothing,
+            },
+        }
+    }
+
+    // A new key in a full list. With no capacity there is nothing to push out and nothing is stored.
+    fn place_evicting(self, words: &mut [u64], item: Record) -> FastLru
+        ensures { λ r. ⌜ PlacingFull (now (words .entry)) self item (now (words .exit)) r ⌝ }
+    {
+        let held = self.map;
+        if held.capacity == 0 {
+            return self;
+        }
+        let evicted = self.evict(words);
+        let rest = evicted.map;
+        let put = rest.put(words, item);
+        let map = put.map;
+        FastLru { map }
+    }
+
+    // The item that makes room for another.
+    fn victim(self, words: &[u64]) -> Oldest
+        ensures { λ r. ⌜ Choosing (now (words .entry)) self r ⌝ }
+    {
+        self.oldest(words)
+    }
+
+    fn evict(self, words: &mut [u64]) -> FastLru
+        ensures { λ r. ⌜ Evicting (now (words .entry)) self (now (words .exit)) r ⌝ }
+    {
+        let item = self.victim(words);
+        let popped = self.take(words, item);
+        popped.lru
+    }
+
+    // Takes an item out of the list, by its key.
+    fn take(self, words: &mut [u64], item: Oldest) -> Popped
+        ensures { λ r. ⌜ Taking (now (words .entry)) self item (now (words .exit)) r ⌝ }
+    {
+        match item {
+            Oldest::Item(key, value) => {
+                let held = self.map;
+                let removed = held.remove(words, key);
+                let map = removed.map;
+                Popped {
+                    lru: FastLru { map },
+                    answer: Oldest::Item(key, value),
+                }
+            }
+            Oldest::Nothing => Popped {
+                lru: self,
+                answer: Oldest::Nothing,
+            },
+            Oldest::Refused(why) => Popped {
+                lru: self,
+                answer: Oldest::Refused(why),
+            },
+        }
+    }
+
+    pub fn remove(self, words: &mut [u64], key: u64) -> Got
+        ensures { λ r. ⌜ Removing (now (words .entry)) self key (now (words .exit)) r ⌝ }
+    {
+        match self.admitted(words.len()) {
+            Outcome::Refused(why) => Got {
+                lru: self,
+                answer: Found::Refused(why),
+            },
+            Outcome::Done => {
+                let held = self.map;
+                let removed = held.remove(words, key);
+                let map = removed.map;
+                let taken = removed.answer;
+                Got {
+                    lru: FastLru { map },
+                    answer: value_of(taken),
+                }
+            }
+        }
+    }
+
+    // Takes the least recent item out.
+    pub fn pop_lru(self, words: &mut [u64]) -> Popped
+        ensures { λ r. ⌜ Popping (now (words .entry)) self (now (words .exit)) r ⌝ }
+    {
+        match self.admitted(words.len()) {
+            Outcome::Refused(why) => Popped {
+                lru: self,
+                answer: Oldest::Refused(why),
+            },
+            Outcome::Done => {
+                let item = self.oldest(words);
+                self.take(words, item)
+            }
+        }
+    }
+
+    // The least recent item, which stays.
+    pub fn peek_lru(self, words: &[u64]) -> Oldest
+        ensures { λ r. ⌜ PeekingOldest (now (words .entry)) self r ⌝ }
+    {
+        match self.admitted(words.len()) {
+            Outcome::Refused(why) => Oldest::Refused(why),
+            Outcome::Done => self.oldest(words),
+        }
+    }
+
+    fn oldest(self, words: &[u64]) -> Oldest
+        ensures { λ r. ⌜ Picking (now (words .entry)) self r ⌝ }
+    {
+        let map = self.map;
+        let slot = map.last(words);
+        self.item_at(words, slot)
+    }
+
+    fn item_at(self, words: &[u64], slot: Slot) -> Oldest
+        ensures { λ r. ⌜ ItemAt (now (words .entry)) self slot r ⌝ }
+    {
+        match slot {
+            Slot::At(s) => {
+                let map = self.map;
+                let record = map.record(words, s);
+                Oldest::Item(record.key, record.first)
+            }
+            Slot::Nothing => Oldest::Nothing,
+            Slot::Refused => Oldest::Nothing,
+        }
+    }
+
+    pub fn clear(self, words: &mut [u64]) -> Opened
+        ensures { λ r. ⌜ Clearing (now (words .entry)) self (now (words .exit)) r ⌝ }
+    {
+        match self.admitted(words.len()) {
+            Outcome::Refused(why) => Opened {
+                lru: self,
+                answer: Outcome::Refused(why),
+            },
+            Outcome::Done => {
+                let held = self.map;
+                let cleared = held.clear(words);
+                let map = cleared.map;
+                Opened {
+                    lru: FastLru { map },
+                    answer: Outcome::Done,
+                }
+            }
+        }
+    }
+
+    // Moves the item to the front, and says whether there is one.
+    pub fn touch(self, words: &mut [u64], key: u64) -> Touched
+        ensures { λ r. ⌜ Touching (now (words .entry)) self key (now (words .exit)) r ⌝ }
+    {
+        match self.admitted(words.len()) {
+            Outcome::Refused(why) => Touched {
+                lru: self,
+                answer: Told::Refused(why),
+            },
+            Outcome::Done => {
+                let map = self.map;
+                Touched {
+                    lru: self,
+                    answer: is_slot(map.touch(words, key)),
+                }
+            }
+        }
+    }
+
+    // How many items are more recent than the key's.
+    pub fn recency_rank(self, words: &[u64], key: u64) -> Ranked
+        ensures { λ r. ⌜ Ranking (now (words .entry)) self key r ⌝ }
+    {
+        match self.admitted(words.len()) {
+            Outcome::Refused(why) => Ranked {
+                lru: self,
+                answer: Rank::Refused(why),
+            },
+            Outcome::Done => Ranked {
+                lru: self,
+                answer: self.rank_of(words, key),
+            },
+        }
+    }
+
+    fn rank_of(self, words: &[u64], key: u64) -> Rank
+        ensures { λ r. ⌜ RankOf (now (words .entry)) self key r ⌝ }
+    {
+        let map = self.map;
+        match map.find(words, key) {
+            Slot::At(_) => self.rank_from_first(words, key),
+            Slot::Nothing => Rank::Nothing,
+            Slot::Refused => Rank::Nothing,
+        }
+    }
+
+    fn rank_from_first(self, words: &[u64], key: u64) -> Rank
+        ensures { λ r. ⌜ RankOf (now (words .entry)) self key r ⌝ }
+    {
+        let map = self.map;
+        match map.first(words) {
+            Slot::At(s) => self.rank_from(words, key, s),
+            Slot::Nothing => Rank::Nothing,
+            Slot::Refused => Rank::Nothing,
+        }
+    }
+
+    // Walks from the first item's slot.
+    fn rank_from(self, words: &[u64], key: u64, first: usize) -> Rank
+        ensures { λ r. ⌜ RankFrom (now (words .entry)) self key first r ⌝ }
+    {
+        let map = self.map;
+        let mut slot = first;
+        let mut rank = 0;
+        while rank < map.capacity {
+            let record = map.record(words, slot);
+            if record.key == key {
+                return Rank::At(rank);
+            }
+            match map.next(words, slot) {
+                Slot::At(s) => {
+                    slot = s;
+                }
+                Slot::Nothing => {
+                    return Rank::Nothing;
+                }
+                Slot::Refused => {
+                    return Rank::Nothing;
+                }
+            }
+            rank += 1;
+        }
+        Rank::Nothing
+    }
+
+    // Whether words and numbers form a list.
+    pub fn check(self, words: &[u64]) -> bool
+        ensures { λ r. ⌜ Checking (now (words .entry)) self r ⌝ }
+    {
+        match self.admitted(words.len()) {
+            Outcome::Refused(_) => false,
+            Outcome::Done => {
+                let map = self.map;
+                map.check(words)
+            }
+        }
+    }
+}
