@@ -1,0 +1,15 @@
+pub mod Helds
+pub mod Valid
+pub mod Parts
+pub mod Entered
+pub mod Settling
+pub mod Refilling
+pub mod Stepping
+pub mod Calling
+pub mod Asking
+pub mod Best
+pub mod Updating
+pub mod Samples
+pub mod Accounts
+pub mod Numbers
+pub mod Laws

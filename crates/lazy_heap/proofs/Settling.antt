@@ -1,0 +1,154 @@
+-- Stale entries leave from the top: what is left to discard, and what was, stay the same together.
+use mathlib.Core.Path.{_≡_, refl, sym, ap, _∙_}
+use mathlib.Core.Bool.{true, false, true≢false}
+use mathlib.Core.List.{List, [], _∷_}
+use Prim.Native.Nat.{ℕ, _+_, _-_, _<_, _≤_}
+use native.Mathlib.Omega.{arith}
+use lib.Dec.{eqb}
+use lib.ListN.{length}
+use borrow.Author.Tests.{eq-eqb, ne-eqb}
+use Rattle.binary_heap.specs.declared.entries.Entry.{Entry}
+use Rattle.binary_heap.specs.declared.heap.Top.{Top}
+use Rattle.binary_heap.specs.declared.heap.Top.the-variants as top
+use Rattle.binary_heap.specs.Heap.{first, rest}
+use Rattle.binary_heap.proofs.Laws.{model-length}
+use Rattle.linked_hash_map.specs.declared.map.LinkedHashMap.{LinkedHashMap}
+use Rattle.linked_hash_map.specs.declared.map.Record.{Record}
+use Rattle.linked_hash_map.specs.declared.map.Slot.the-variants as slot
+use Rattle.linked_hash_map.specs.declared.map.Taken.the-variants as taken
+use Rattle.linked_hash_map.specs.Model.{lookup}
+use Rattle.linked_hash_map.specs.Map as map
+use Rattle.linked_hash_map.proofs.Laws.{Keyed, held, absent, keyed}
+use Rattle.lazy_heap.specs.declared.heap.LazyMinHeap.{LazyMinHeap}
+use Rattle.lazy_heap.specs.Words.{part, Room}
+use Rattle.lazy_heap.specs.Model.{live, staleBefore, fromLive}
+use Rattle.lazy_heap.specs.Heap.{heldOf, entriesOf, Parts}
+use Rattle.lazy_heap.specs.Steps.{Entered, Popping, settledBy, Settled, Discarding}
+
+-- ---- a key's slot, and whether an entry is live
+module _ (ws : List ℕ) (m : LinkedHashMap) (k : ℕ) where
+  pub slot-nothing : map.slotOf ws m k ≡ slot.Nothing → lookup k (map.modelOf ws m) ≡ taken.Nothing
+  slot-nothing e = go (keyed ws m k)
+    where
+      go : Keyed ws m k → lookup k (map.modelOf ws m) ≡ taken.Nothing
+      go (held s r a b c) = absurd (let z : _≡_ {A = ℕ} 0 1 = cc in omega arith)
+      go (absent a b c) = b
+
+  pub slot-refused : map.slotOf ws m k ≡ slot.Refused → ⊥
+  slot-refused e = go (keyed ws m k)
+    where
+      go : Keyed ws m k → ⊥
+      go (held s r a b c) = let z : _≡_ {A = ℕ} 0 1 = cc in omega arith
+      go (absent a b c) = let z : _≡_ {A = ℕ} 0 1 = cc in omega arith
+
+module _ (l : List Record) (e : Entry) where
+  pub live-none : lookup (e .key) l ≡ taken.Nothing → live l e ≡ false
+  unfolding live
+  live-none q = rw q
+
+  pub live-score : {r : Record} → lookup (e .key) l ≡ taken.Record r → (r .first ≡ e .score → ⊥) → live l e ≡ false
+  unfolding live
+  live-score {r} q d = rw (q, ne-eqb (r .first) (e .score) d)
+
+  pub live-seq : {r : Record} → lookup (e .key) l ≡ taken.Record r → r .first ≡ e .score → live l e ≡ eqb (r .second) (e .seq)
+  unfolding live
+  live-seq {r} q d = rw (q, eq-eqb (r .first) (e .score) d)
+
+-- ---- the first entry decides
+module _ (l : List Record) where
+  pub live-first : (es : List Entry) (e : Entry) → first es ≡ top.Entry e → live l e ≡ true → (fromLive l es ≡ es) × (staleBefore l es ≡ 0)
+  unfolding fromLive staleBefore
+  live-first [] e q t = absurd (let z : _≡_ {A = ℕ} 0 1 = cc in omega arith)
+  live-first (x ∷ es) e q t = let same : x ≡ e = cc in let u : live l x ≡ true = ap (live l) same ∙ t in (rw u, rw u)
+
+  pub none-first : (es : List Entry) → first es ≡ top.Nothing → es ≡ []
+  none-first [] q = refl
+  none-first (x ∷ es) q = absurd (let z : _≡_ {A = ℕ} 0 1 = cc in omega arith)
+
+  pub stale-first : (es : List Entry) (e : Entry) → first es ≡ top.Entry e → live l e ≡ false → (fromLive l es ≡ fromLive l (rest es)) × (staleBefore l es ≡ 1 + staleBefore l (rest es))
+  unfolding fromLive staleBefore
+  stale-first [] e q t = absurd (let z : _≡_ {A = ℕ} 0 1 = cc in omega arith)
+  stale-first (x ∷ es) e q t = let same : x ≡ e = cc in let u : live l x ≡ false = ap (live l) same ∙ t in (rw u, rw u)
+
+no-entries : (es : List Entry) → length es ≡ 0 → es ≡ []
+no-entries [] q = refl
+no-entries (x ∷ es) q = absurd (omega arith)
+
+none-left : (l : List Record) (es : List Entry) → es ≡ [] → (fromLive l es ≡ es) × (staleBefore l es ≡ 0)
+unfolding fromLive staleBefore
+none-left l es q = rw q (refl, refl)
+
+-- ---- steps one after the other
+pub entered-then : {ws ws′ ws″ : List ℕ} {h r r″ : LazyMinHeap} → Entered ws h ws′ r → (Parts ws h → Parts ws′ r) → Entered ws′ r ws″ r″ → Entered ws h ws″ r″
+entered-then {ws} {ws′} {ws″} {h} a p b = record {
+  scores = b .scores ∙ a .scores;
+  seq = b .seq ∙ a .seq;
+  factor = b .factor ∙ a .factor;
+  held = λ q. b .held (p q) ∙ a .held q;
+  places = λ q i. ap (λ (m : LinkedHashMap). map.slotAt ws″ m i) (sym (a .scores)) ∙ b .places (p q) i ∙ ap (λ (m : LinkedHashMap). map.slotAt ws′ m i) (a .scores) ∙ a .places q i;
+  kept = record {
+    size = b .kept .size ∙ a .kept .size;
+    past = λ j g. b .kept .past j (rw (a .scores) g) ∙ a .kept .past j g;
+  };
+}
+
+pub entered-same : (ws : List ℕ) (h : LazyMinHeap) → Entered ws h ws h
+entered-same ws h = record { scores = refl; seq = refl; factor = refl; held = λ p. refl; places = λ p i. refl; kept = record { size = refl; past = λ j g. refl } }
+
+-- d entries are gone, and at most `left` may still go
+pub record Settling (ws₀ : List ℕ) (h₀ : LazyMinHeap) (ws : List ℕ) (h : LazyMinHeap) (d left : ℕ) : Type 0 where
+  pub entered : Entered ws₀ h₀ ws h
+  pub counted : d + left ≡ h₀ .entries
+  pub parts : Parts ws₀ h₀ → Parts ws h
+  pub count : Parts ws₀ h₀ → h .entries ≡ left
+  pub ahead : Parts ws₀ h₀ → fromLive (heldOf ws₀ h₀) (entriesOf ws h) ≡ fromLive (heldOf ws₀ h₀) (entriesOf ws₀ h₀)
+  pub gone : Parts ws₀ h₀ → d + staleBefore (heldOf ws₀ h₀) (entriesOf ws h) ≡ staleBefore (heldOf ws₀ h₀) (entriesOf ws₀ h₀)
+
+pub settling-start : (ws : List ℕ) (h : LazyMinHeap) → Settling ws h ws h 0 (h .entries)
+settling-start ws h = record { entered = entered-same ws h; counted = omega arith; parts = λ p. p; count = λ p. refl; ahead = λ p. refl; gone = λ p. omega arith }
+
+-- a stale entry leaves
+pub settling-on : {ws₀ ws ws′ : List ℕ} {h₀ h r : LazyMinHeap} {d left : ℕ} → Settling ws₀ h₀ ws h d left → 0 < left → Settled ws h false → Popping ws h ws′ r → Settling ws₀ h₀ ws′ r (d + 1) (left - 1)
+settling-on {ws₀} {ws} {ws′} {h₀} {h} {r} {d} {left} s more stale pop = record {
+  entered = entered-then (s .entered) (s .parts) (pop .entered);
+  counted = omega (arith, s .counted);
+  parts = λ p. pop .parts (s .parts p);
+  count = λ p. pop .count (s .parts p) ∙ ap (λ (n : ℕ). n - 1) (s .count p);
+  ahead = λ p. let o = at p in ap (fromLive (heldOf ws₀ h₀)) (pop .entries (s .parts p)) ∙ sym (o .0) ∙ s .ahead p;
+  gone = λ p. let o = at p in omega (arith, s .gone p, o .1, ap (staleBefore (heldOf ws₀ h₀)) (pop .entries (s .parts p)));
+}
+  where
+    Gone : Type 0
+    Gone = (fromLive (heldOf ws₀ h₀) (entriesOf ws h) ≡ fromLive (heldOf ws₀ h₀) (rest (entriesOf ws h))) × (staleBefore (heldOf ws₀ h₀) (entriesOf ws h) ≡ 1 + staleBefore (heldOf ws₀ h₀) (rest (entriesOf ws h)))
+
+    at : Parts ws₀ h₀ → Gone
+    at p = go (first (entriesOf ws h)) refl (stale .answer (s .parts p))
+      where
+        go : (t : Top) → first (entriesOf ws h) ≡ t → false ≡ settledBy ws h (first (entriesOf ws h)) → Gone
+        go (top.Entry e) q f = stale-first (heldOf ws₀ h₀) (entriesOf ws h) e q (ap (λ (l : List Record). live l e) (sym (s .entered .held p)) ∙ sym (f ∙ ap (settledBy ws h) q))
+        go top.Nothing q f = absurd (true≢false (sym (f ∙ ap (settledBy ws h) q)))
+
+-- the loop ends where no stale entry is at the top, or no entry is left
+module _ {ws₀ ws : List ℕ} {h₀ h : LazyMinHeap} {d left : ℕ} (s : Settling ws₀ h₀ ws h d left) where
+  ended : ((p : Parts ws₀ h₀) → (fromLive (heldOf ws₀ h₀) (entriesOf ws h) ≡ entriesOf ws h) × (staleBefore (heldOf ws₀ h₀) (entriesOf ws h) ≡ 0)) → Discarding ws₀ h₀ ws (record { heap = h; discarded = d })
+  ended last = record {
+    entered = s .entered;
+    fewer = λ p. omega (arith, s .counted, s .count p);
+    parts = s .parts;
+    entries = λ p. sym (last p .0) ∙ s .ahead p;
+    discarded = λ p. omega (arith, s .gone p, last p .1);
+  }
+
+  pub settled-top : Settled ws h true → Discarding ws₀ h₀ ws (record { heap = h; discarded = d })
+  settled-top t = ended (λ p. go p (first (entriesOf ws h)) refl (t .answer (s .parts p)))
+    where
+      go : Parts ws₀ h₀ → (u : Top) → first (entriesOf ws h) ≡ u → true ≡ settledBy ws h (first (entriesOf ws h)) → (fromLive (heldOf ws₀ h₀) (entriesOf ws h) ≡ entriesOf ws h) × (staleBefore (heldOf ws₀ h₀) (entriesOf ws h) ≡ 0)
+      go p (top.Entry e) q f = live-first (heldOf ws₀ h₀) (entriesOf ws h) e q (ap (λ (l : List Record). live l e) (sym (s .entered .held p)) ∙ sym (f ∙ ap (settledBy ws h) q))
+      go p top.Nothing q f = none-left (heldOf ws₀ h₀) (entriesOf ws h) (none-first (heldOf ws₀ h₀) (entriesOf ws h) q)
+
+  pub settled-empty : left ≤ 0 → Discarding ws₀ h₀ ws (record { heap = h; discarded = d })
+  settled-empty z = ended (λ p. none-left (heldOf ws₀ h₀) (entriesOf ws h) (no-entries (entriesOf ws h) (model-length (part (h .scores .capacity) ws) (h .entries) ∙ s .count p ∙ omega arith)))
+
+-- the limits hold after a step as before
+pub room-entered : {ws ws′ : List ℕ} {h r : LazyMinHeap} → Entered ws h ws′ r → Room (length ws) (h .scores .capacity) → Room (length ws′) (r .scores .capacity)
+room-entered e room = rw (e .scores, e .kept .size) room

@@ -1,0 +1,817 @@
+// The heap's calls. A public call tests the limits and hands on to a private function, which may count on them.
+ghost use mathlib.Core.Path.{_≡_};
+ghost use Prim.Native.Nat.{_-_, _≤_};
+ghost use lib.ListN.{length};
+ghost use Rattle.lazy_heap.specs.Words.{limitsOf, limitsWith, Room};
+ghost use Rattle.lazy_heap.specs.Model.{atLeastOne, heldScore, factorOf, len, heapLen};
+ghost use Rattle.lazy_heap.specs.Calls.{Opening, Resetting, Asking, AskingEmpty, Scoring, Removing, PeekingBest, PoppingBest, RebuildingNow, RebuildingMaybe, RenumberingNow, Clearing, Updating};
+ghost use Rattle.lazy_heap.specs.Steps.{bestOf, Adding, Filling, after, slotNumber, replacedScore, Crowding, Living, Pushing, Popping, Peeking, Settled, Discarding, Rebuilding, Numbered, Renumbering, Fitting, Trimming, Holding};
+use binary_heap::Entry;
+use binary_heap::Top;
+use linked_hash_map::LinkedHashMap;
+use linked_hash_map::Placed;
+use linked_hash_map::Record;
+use linked_hash_map::Slot;
+use linked_hash_map::Taken;
+use time::Outcome;
+use time::Refusal;
+
+// The heap's numbers; all else is in the words. Those of a refused opening are all 0.
+pub struct LazyMinHeap {
+    pub scores: LinkedHashMap,
+    pub entries: usize,
+    pub seq: u64,
+    pub factor: usize,
+}
+
+pub enum Score {
+    Value(u64),
+    Nothing,
+    Refused(Refusal),
+}
+
+pub enum Best {
+    Pair(u64, u64),
+    Nothing,
+    Refused(Refusal),
+}
+
+pub enum Number {
+    Value(usize),
+    Refused(Refusal),
+}
+
+pub enum Flag {
+    Yes,
+    No,
+    Refused(Refusal),
+}
+
+// What a call hands back: the numbers, its answer, and how many entries it discarded.
+pub struct Updated {
+    pub heap: LazyMinHeap,
+    pub answer: Score,
+    pub discarded: usize,
+}
+
+pub struct Bested {
+    pub heap: LazyMinHeap,
+    pub answer: Best,
+    pub discarded: usize,
+}
+
+pub struct Opened {
+    pub heap: LazyMinHeap,
+    pub outcome: Outcome,
+}
+
+pub struct Stepped {
+    pub heap: LazyMinHeap,
+    pub outcome: Outcome,
+    pub discarded: usize,
+}
+
+// A heap after a step, and how many entries the step discarded.
+struct Step {
+    heap: LazyMinHeap,
+    discarded: usize,
+}
+
+// A heap after a key was set, and the score that it held before.
+struct Held {
+    heap: LazyMinHeap,
+    answer: Score,
+}
+
+// Refusals 1 and 2, of a key limit and a number of words.
+fn limits(limit: usize, size: usize) -> Outcome
+    ensures { λ r. ⌜ r ≡ limitsOf limit size ⌝ }
+{
+    if limit == 0 {
+        return Outcome::Refused(Refusal::LimitOutOfRange);
+    }
+    if 4096 < limit {
+        return Outcome::Refused(Refusal::LimitOutOfRange);
+    }
+    if size < 64 + 32 * limit {
+        return Outcome::Refused(Refusal::TooFewWords);
+    }
+    Outcome::Done
+}
+
+// And refusal 5, of a factor.
+fn limits_with(limit: usize, size: usize, factor: usize) -> Outcome
+    ensures { λ r. ⌜ r ≡ limitsWith limit size factor ⌝ }
+{
+    match limits(limit, size) {
+        Outcome::Refused(why) => Outcome::Refused(why),
+        Outcome::Done => {
+            if 8 < factor {
+                return Outcome::Refused(Refusal::FactorTooLarge);
+            }
+            Outcome::Done
+        }
+    }
+}
+
+fn at_least_one(factor: usize) -> usize
+    ensures { λ r. ⌜ r ≡ atLeastOne factor ⌝ }
+{
+    if factor == 0 { 1 } else { factor }
+}
+
+// The number after seq, which is not the last.
+fn number_after(seq: u64) -> u64
+    ensures { λ r. ⌜ r ≡ after seq ⌝ }
+{
+    if seq < u64::MAX { seq + 1 } else { seq }
+}
+
+fn slot_number(slot: Slot, none: usize) -> usize
+    ensures { λ r. ⌜ r ≡ slotNumber slot none ⌝ }
+{
+    match slot {
+        Slot::At(s) => s,
+        Slot::Nothing => none,
+        Slot::Refused => none,
+    }
+}
+
+// Whether there are more entries than factor times the keys held. (No product is beyond 8 × 4,096.)
+fn too_many(factor: usize, entries: usize, held: usize) -> bool
+    ensures { λ r. ⌜ Crowding factor entries held r ⌝ }
+{
+    if 8 < factor {
+        return false;
+    }
+    if 4096 < held {
+        return false;
+    }
+    at_least_one(factor) * held < entries
+}
+
+fn replaced_score(placed: Placed) -> Score
+    ensures { λ r. ⌜ r ≡ replacedScore placed ⌝ }
+{
+    match placed {
+        Placed::Replaced(r) => Score::Value(r.first),
+        Placed::Inserted => Score::Nothing,
+        Placed::Full => Score::Nothing,
+        Placed::Refused => Score::Nothing,
+    }
+}
+
+// The sum of two counts. (No heap has counts whose sum is beyond a word.)
+fn sum(a: usize, b: usize) -> usize
+    ensures { λ r. ⌜ Adding a b r ⌝ }
+{
+    if a <= 32769 {
+        if b <= 32769 {
+            return a + b;
+        }
+    }
+    0
+}
+
+fn taken_score(taken: Taken) -> Score
+    ensures { λ r. ⌜ r ≡ heldScore taken ⌝ }
+{
+    match taken {
+        Taken::Record(r) => Score::Value(r.first),
+        Taken::Nothing => Score::Nothing,
+        Taken::Refused => Score::Nothing,
+    }
+}
+
+fn best_of(top: Top) -> Best
+    ensures { λ r. ⌜ r ≡ bestOf top ⌝ }
+{
+    match top {
+        Top::Entry(e) => Best::Pair(e.key, e.score),
+        Top::Nothing => Best::Nothing,
+    }
+}
+
+impl LazyMinHeap {
+    // ---- opening, and the factor
+
+    pub fn open(words: &mut [u64], limit: usize, factor: usize, seq: u64) -> Opened
+        ensures { λ r. ⌜ Opening (now (words .entry)) limit factor seq (now (words .exit)) r ⌝ }
+    {
+        match limits_with(limit, words.len(), factor) {
+            Outcome::Refused(why) => Opened {
+                heap: LazyMinHeap {
+                    scores: LinkedHashMap {
+                        capacity: 0,
+                        len: 0,
+                        refill_in: 0,
+                    },
+                    entries: 0,
+                    seq: 0,
+                    factor: 0,
+                },
+                outcome: Outcome::Refused(why),
+            },
+            Outcome::Done => {
+                let opened = LinkedHashMap::open(words, limit);
+                let scores = opened.map;
+                Opened {
+                    heap: LazyMinHeap {
+                        scores,
+                        entries: 0,
+                        seq,
+                        factor: at_least_one(factor),
+                    },
+                    outcome: Outcome::Done,
+                }
+            }
+        }
+    }
+
+    pub fn set_auto_rebuild(self, words: &[u64], factor: usize) -> Stepped
+        ensures { λ r. ⌜ Resetting (now (words .entry)) self factor r ⌝ }
+    {
+        match limits_with(self.scores.capacity, words.len(), factor) {
+            Outcome::Refused(why) => Stepped {
+                heap: self,
+                outcome: Outcome::Refused(why),
+                discarded: 0,
+            },
+            Outcome::Done => {
+                let scores = self.scores;
+                Stepped {
+                    heap: LazyMinHeap {
+                        scores,
+                        entries: self.entries,
+                        seq: self.seq,
+                        factor: at_least_one(factor),
+                    },
+                    outcome: Outcome::Done,
+                    discarded: 0,
+                }
+            }
+        }
+    }
+
+    pub fn auto_rebuild_factor(self, words: &[u64]) -> Number
+        ensures { λ r. ⌜ Asking (now (words .entry)) self factorOf r ⌝ }
+    {
+        match limits(self.scores.capacity, words.len()) {
+            Outcome::Refused(why) => Number::Refused(why),
+            Outcome::Done => Number::Value(self.factor),
+        }
+    }
+
+    // ---- how many
+
+    pub fn len(self, words: &[u64]) -> Number
+        ensures { λ r. ⌜ Asking (now (words .entry)) self len r ⌝ }
+    {
+        match limits(self.scores.capacity, words.len()) {
+            Outcome::Refused(why) => Number::Refused(why),
+            Outcome::Done => Number::Value(self.scores.len),
+        }
+    }
+
+    pub fn is_empty(self, words: &[u64]) -> Flag
+        ensures { λ r. ⌜ AskingEmpty (now (words .entry)) self r ⌝ }
+    {
+        match limits(self.scores.capacity, words.len()) {
+            Outcome::Refused(why) => Flag::Refused(why),
+            Outcome::Done => {
+                if self.scores.len == 0 {
+                    return Flag::Yes;
+                }
+                Flag::No
+            }
+        }
+    }
+
+    // Stale entries included.
+    pub fn heap_len(self, words: &[u64]) -> Number
+        ensures { λ r. ⌜ Asking (now (words .entry)) self heapLen r ⌝ }
+    {
+        match limits(self.scores.capacity, words.len()) {
+            Outcome::Refused(why) => Number::Refused(why),
+            Outcome::Done => Number::Value(self.entries),
+        }
+    }
+
+    // ---- scores
+
+    pub fn score_of(self, words: &[u64], key: u64) -> Score
+        ensures { λ r. ⌜ Scoring (now (words .entry)) self key r ⌝ }
+    {
+        match limits(self.scores.capacity, words.len()) {
+            Outcome::Refused(why) => Score::Refused(why),
+            Outcome::Done => self.held_score(words, key),
+        }
+    }
+
+    // Holds a score for a key, in the place of the old one, which is the answer.
+    pub fn update(self, words: &mut [u64], key: u64, score: u64) -> Updated
+        ensures { λ r. ⌜ Updating (now (words .entry)) self key score (now (words .exit)) r ⌝ }
+    {
+        match limits(self.scores.capacity, words.len()) {
+            Outcome::Refused(why) => Updated {
+                heap: self,
+                answer: Score::Refused(why),
+                discarded: 0,
+            },
+            Outcome::Done => self.update_within(words, key, score),
+        }
+    }
+
+    // Its entry stays, stale.
+    pub fn remove(self, words: &mut [u64], key: u64) -> Updated
+        ensures { λ r. ⌜ Removing (now (words .entry)) self key (now (words .exit)) r ⌝ }
+    {
+        match limits(self.scores.capacity, words.len()) {
+            Outcome::Refused(why) => Updated {
+                heap: self,
+                answer: Score::Refused(why),
+                discarded: 0,
+            },
+            Outcome::Done => self.remove_within(words, key),
+        }
+    }
+
+    // The key of the least score, of equal ones that set first. Stale entries before it are discarded.
+    pub fn peek_best(self, words: &mut [u64]) -> Bested
+        ensures { λ r. ⌜ PeekingBest (now (words .entry)) self (now (words .exit)) r ⌝ }
+    {
+        match limits(self.scores.capacity, words.len()) {
+            Outcome::Refused(why) => Bested {
+                heap: self,
+                answer: Best::Refused(why),
+                discarded: 0,
+            },
+            Outcome::Done => self.peek_within(words),
+        }
+    }
+
+    pub fn pop_best(self, words: &mut [u64]) -> Bested
+        ensures { λ r. ⌜ PoppingBest (now (words .entry)) self (now (words .exit)) r ⌝ }
+    {
+        match limits(self.scores.capacity, words.len()) {
+            Outcome::Refused(why) => Bested {
+                heap: self,
+                answer: Best::Refused(why),
+                discarded: 0,
+            },
+            Outcome::Done => self.pop_within(words),
+        }
+    }
+
+    // ---- all entries at once
+
+    pub fn rebuild(self, words: &mut [u64]) -> Stepped
+        ensures { λ r. ⌜ RebuildingNow (now (words .entry)) self (now (words .exit)) r ⌝ }
+    {
+        match limits(self.scores.capacity, words.len()) {
+            Outcome::Refused(why) => Stepped {
+                heap: self,
+                outcome: Outcome::Refused(why),
+                discarded: 0,
+            },
+            Outcome::Done => {
+                let discarded = self.surplus();
+                Stepped {
+                    heap: self.rebuild_within(words),
+                    outcome: Outcome::Done,
+                    discarded,
+                }
+            }
+        }
+    }
+
+    // Rebuilds if there are more entries than factor times the keys held.
+    pub fn maybe_rebuild(self, words: &mut [u64], factor: usize) -> Stepped
+        ensures { λ r. ⌜ RebuildingMaybe (now (words .entry)) self factor (now (words .exit)) r ⌝ }
+    {
+        match limits_with(self.scores.capacity, words.len(), factor) {
+            Outcome::Refused(why) => Stepped {
+                heap: self,
+                outcome: Outcome::Refused(why),
+                discarded: 0,
+            },
+            Outcome::Done => {
+                let step = self.fit_entries(words, factor);
+                let heap = step.heap;
+                Stepped {
+                    heap,
+                    outcome: Outcome::Done,
+                    discarded: step.discarded,
+                }
+            }
+        }
+    }
+
+    pub fn renumber_seqs(self, words: &mut [u64]) -> Stepped
+        ensures { λ r. ⌜ RenumberingNow (now (words .entry)) self (now (words .exit)) r ⌝ }
+    {
+        match limits(self.scores.capacity, words.len()) {
+            Outcome::Refused(why) => Stepped {
+                heap: self,
+                outcome: Outcome::Refused(why),
+                discarded: 0,
+            },
+            Outcome::Done => {
+                let discarded = self.surplus();
+                Stepped {
+                    heap: self.renumber_within(words),
+                    outcome: Outcome::Done,
+                    discarded,
+                }
+            }
+        }
+    }
+
+    // The next number stays.
+    pub fn clear(self, words: &mut [u64]) -> Stepped
+        ensures { λ r. ⌜ Clearing (now (words .entry)) self (now (words .exit)) r ⌝ }
+    {
+        match limits(self.scores.capacity, words.len()) {
+            Outcome::Refused(why) => Stepped {
+                heap: self,
+                outcome: Outcome::Refused(why),
+                discarded: 0,
+            },
+            Outcome::Done => {
+                let discarded = self.surplus();
+                let cleared = self.scores.clear(words);
+                let scores = cleared.map;
+                Stepped {
+                    heap: LazyMinHeap {
+                        scores,
+                        entries: 0,
+                        seq: self.seq,
+                        factor: self.factor,
+                    },
+                    outcome: Outcome::Done,
+                    discarded,
+                }
+            }
+        }
+    }
+
+    // ---- the entries
+
+    fn push(self, words: &mut [u64], entry: Entry) -> LazyMinHeap
+        requires { ⌜ Room (length (now words)) (self .scores .capacity) ⌝ }
+        ensures { λ r. ⌜ Pushing (now (words .entry)) self entry (now (words .exit)) r ⌝ }
+    {
+        let scores = self.scores;
+        let n = scores.capacity;
+        let start = 8 * n + 58;
+        let end = 64 + 32 * n;
+        let pushed = binary_heap::push(&mut words[start..end], self.entries, entry);
+        LazyMinHeap {
+            scores,
+            entries: pushed.len,
+            seq: self.seq,
+            factor: self.factor,
+        }
+    }
+
+    fn pop(self, words: &mut [u64]) -> LazyMinHeap
+        requires { ⌜ Room (length (now words)) (self .scores .capacity) ⌝ }
+        ensures { λ r. ⌜ Popping (now (words .entry)) self (now (words .exit)) r ⌝ }
+    {
+        let scores = self.scores;
+        let n = scores.capacity;
+        let start = 8 * n + 58;
+        let end = 64 + 32 * n;
+        let popped = binary_heap::pop(&mut words[start..end], self.entries);
+        LazyMinHeap {
+            scores,
+            entries: popped.len,
+            seq: self.seq,
+            factor: self.factor,
+        }
+    }
+
+    fn top(self, words: &[u64]) -> Top
+        requires { ⌜ Room (length (now words)) (self .scores .capacity) ⌝ }
+        ensures { λ r. ⌜ Peeking (now (words .entry)) self r ⌝ }
+    {
+        let n = self.scores.capacity;
+        let start = 8 * n + 58;
+        let end = 64 + 32 * n;
+        binary_heap::peek(&words[start..end], self.entries)
+    }
+
+    // Whether an entry's score and number are those that its key holds.
+    fn is_live(self, words: &[u64], entry: Entry) -> bool
+        ensures { λ r. ⌜ Living (now (words .entry)) self entry r ⌝ }
+    {
+        let scores = self.scores;
+        match scores.find(words, entry.key) {
+            Slot::At(s) => {
+                let r = scores.record(words, s);
+                if r.first == entry.score {
+                    return r.second == entry.seq;
+                }
+                false
+            }
+            Slot::Nothing => false,
+            Slot::Refused => false,
+        }
+    }
+
+    // No stale entry is at the top.
+    fn is_settled(self, words: &[u64]) -> bool
+        requires { ⌜ Room (length (now words)) (self .scores .capacity) ⌝ }
+        ensures { λ r. ⌜ Settled (now (words .entry)) self r ⌝ }
+    {
+        match self.top(words) {
+            Top::Entry(e) => self.is_live(words, e),
+            Top::Nothing => true,
+        }
+    }
+
+    // Discards stale entries from the top, up to the first live one.
+    fn settle(self, words: &mut [u64]) -> Step
+        requires { ⌜ Room (length (now words)) (self .scores .capacity) ⌝ }
+        ensures { λ r. ⌜ Discarding (now (words .entry)) self (now (words .exit)) r ⌝ }
+    {
+        let mut heap = self;
+        let mut discarded = 0;
+        let mut left = self.entries;
+        while 0 < left {
+            if heap.is_settled(words) {
+                return Step { heap, discarded };
+            }
+            heap = heap.pop(words);
+            discarded += 1;
+            left -= 1;
+        }
+        Step { heap, discarded }
+    }
+
+    // ---- rebuilding and renumbering
+
+    // The entries that are more than the keys held.
+    fn surplus(self) -> usize
+        ensures { λ r. ⌜ r ≡ self .entries - self .scores .len ⌝ }
+    {
+        let held = self.scores.len;
+        if held <= self.entries {
+            return self.entries - held;
+        }
+        0
+    }
+
+    // The live entries alone, pushed in sequence order: the walk is from the earliest set to the latest.
+    fn rebuild_within(self, words: &mut [u64]) -> LazyMinHeap
+        requires { ⌜ Room (length (now words)) (self .scores .capacity) ⌝ }
+        ensures { λ r. ⌜ Rebuilding (now (words .entry)) self (now (words .exit)) r ⌝ }
+    {
+        let scores = self.scores;
+        let mut heap = LazyMinHeap {
+            scores,
+            entries: 0,
+            seq: self.seq,
+            factor: self.factor,
+        };
+        let mut left = scores.len;
+        let mut s = slot_number(scores.last(words), scores.capacity);
+        while 0 < left {
+            let r = scores.record(words, s);
+            heap = heap.push(
+                words,
+                Entry {
+                    score: r.first,
+                    seq: r.second,
+                    key: r.key,
+                },
+            );
+            s = slot_number(scores.previous(words, s), scores.capacity);
+            left -= 1;
+        }
+        heap
+    }
+
+    // Numbers from 0 in the old sequence order.
+    fn number_within(scores: LinkedHashMap, words: &mut [u64]) -> u64
+        ensures { λ r. ⌜ Numbered (now (words .entry)) scores (now (words .exit)) r ⌝ }
+    {
+        let mut left = scores.len;
+        let mut number = 0;
+        let mut s = slot_number(scores.last(words), scores.capacity);
+        while 0 < left {
+            let r = scores.record(words, s);
+            scores.set_payload(
+                words,
+                Record {
+                    key: r.key,
+                    first: r.first,
+                    second: number,
+                },
+            );
+            s = slot_number(scores.previous(words, s), scores.capacity);
+            number += 1;
+            left -= 1;
+        }
+        number
+    }
+
+    fn renumber_within(self, words: &mut [u64]) -> LazyMinHeap
+        requires { ⌜ Room (length (now words)) (self .scores .capacity) ⌝ }
+        ensures { λ r. ⌜ Renumbering (now (words .entry)) self (now (words .exit)) r ⌝ }
+    {
+        let scores = self.scores;
+        let seq = LazyMinHeap::number_within(scores, words);
+        let heap = LazyMinHeap {
+            scores,
+            entries: self.entries,
+            seq,
+            factor: self.factor,
+        };
+        heap.rebuild_within(words)
+    }
+
+    // Renumbers where the next number is the last.
+    fn fit_number(self, words: &mut [u64]) -> Step
+        requires { ⌜ Room (length (now words)) (self .scores .capacity) ⌝ }
+        ensures { λ r. ⌜ Fitting (now (words .entry)) self (now (words .exit)) r ⌝ }
+    {
+        if self.seq == u64::MAX {
+            let discarded = self.surplus();
+            return Step {
+                heap: self.renumber_within(words),
+                discarded,
+            };
+        }
+        Step {
+            heap: self,
+            discarded: 0,
+        }
+    }
+
+    // Rebuilds where there are too many entries.
+    fn fit_entries(self, words: &mut [u64], factor: usize) -> Step
+        requires { ⌜ Room (length (now words)) (self .scores .capacity) ⌝ }
+        ensures { λ r. ⌜ Trimming (now (words .entry)) self factor (now (words .exit)) r ⌝ }
+    {
+        if too_many(factor, self.entries, self.scores.len) {
+            let discarded = self.surplus();
+            return Step {
+                heap: self.rebuild_within(words),
+                discarded,
+            };
+        }
+        Step {
+            heap: self,
+            discarded: 0,
+        }
+    }
+
+    // ---- setting a score
+
+    // Holds the score under the next number and pushes its entry.
+    fn hold(self, words: &mut [u64], key: u64, score: u64) -> Held
+        requires { ⌜ Room (length (now words)) (self .scores .capacity) ⌝ }
+        ensures { λ r. ⌜ Holding (now (words .entry)) self key score (now (words .exit)) r ⌝ }
+    {
+        let seq = self.seq;
+        let put = self.scores.put(
+            words,
+            Record {
+                key,
+                first: score,
+                second: seq,
+            },
+        );
+        let scores = put.map;
+        let heap = LazyMinHeap {
+            scores,
+            entries: self.entries,
+            seq: number_after(seq),
+            factor: self.factor,
+        };
+        let placed = put.answer;
+        Held {
+            heap: heap.push(words, Entry { score, seq, key }),
+            answer: replaced_score(placed),
+        }
+    }
+
+    fn held_score(self, words: &[u64], key: u64) -> Score
+        requires { ⌜ Room (length (now words)) (self .scores .capacity) ⌝ }
+        ensures { λ r. ⌜ Scoring (now (words .entry)) self key r ⌝ }
+    {
+        let scores = self.scores;
+        match scores.find(words, key) {
+            Slot::At(s) => {
+                let r = scores.record(words, s);
+                Score::Value(r.first)
+            }
+            Slot::Nothing => Score::Nothing,
+            Slot::Refused => Score::Nothing,
+        }
+    }
+
+    // A new key, with as many held as the limit allows.
+    fn is_full(self, words: &[u64], key: u64) -> bool
+        ensures { λ r. ⌜ Filling (now (words .entry)) self key r ⌝ }
+    {
+        let scores = self.scores;
+        if scores.len < scores.capacity {
+            return false;
+        }
+        match scores.find(words, key) {
+            Slot::At(_) => false,
+            Slot::Nothing => true,
+            Slot::Refused => true,
+        }
+    }
+
+    fn update_within(self, words: &mut [u64], key: u64, score: u64) -> Updated
+        requires { ⌜ Room (length (now words)) (self .scores .capacity) ⌝ }
+        ensures { λ r. ⌜ Updating (now (words .entry)) self key score (now (words .exit)) r ⌝ }
+    {
+        if self.is_full(words, key) {
+            return Updated {
+                heap: self,
+                answer: Score::Refused(Refusal::KeyLimitReached),
+                discarded: 0,
+            };
+        }
+        let fit = self.fit_number(words);
+        let ready = fit.heap;
+        let held = ready.hold(words, key, score);
+        let pushed = held.heap;
+        let answer = held.answer;
+        let trimmed = pushed.fit_entries(words, self.factor);
+        let heap = trimmed.heap;
+        Updated {
+            heap,
+            answer,
+            discarded: sum(fit.discarded, trimmed.discarded),
+        }
+    }
+
+    fn remove_within(self, words: &mut [u64], key: u64) -> Updated
+        requires { ⌜ Room (length (now words)) (self .scores .capacity) ⌝ }
+        ensures { λ r. ⌜ Removing (now (words .entry)) self key (now (words .exit)) r ⌝ }
+    {
+        let removed = self.scores.remove(words, key);
+        let scores = removed.map;
+        let taken = removed.answer;
+        Updated {
+            heap: LazyMinHeap {
+                scores,
+                entries: self.entries,
+                seq: self.seq,
+                factor: self.factor,
+            },
+            answer: taken_score(taken),
+            discarded: 0,
+        }
+    }
+
+    fn peek_within(self, words: &mut [u64]) -> Bested
+        requires { ⌜ Room (length (now words)) (self .scores .capacity) ⌝ }
+        ensures { λ r. ⌜ PeekingBest (now (words .entry)) self (now (words .exit)) r ⌝ }
+    {
+        let step = self.settle(words);
+        let heap = step.heap;
+        let top = heap.top(words);
+        Bested {
+            heap,
+            answer: best_of(top),
+            discarded: step.discarded,
+        }
+    }
+
+    fn pop_within(self, words: &mut [u64]) -> Bested
+        requires { ⌜ Room (length (now words)) (self .scores .capacity) ⌝ }
+        ensures { λ r. ⌜ PoppingBest (now (words .entry)) self (now (words .exit)) r ⌝ }
+    {
+        let step = self.settle(words);
+        let settled = step.heap;
+        match settled.top(words) {
+            Top::Entry(e) => {
+                let heap = settled.pop(words);
+                let removed = heap.scores.remove(words, e.key);
+                let scores = removed.map;
+                Bested {
+                    heap: LazyMinHeap {
+                        scores,
+                        entries: heap.entries,
+                        seq: heap.seq,
+                        factor: heap.factor,
+                    },
+                    answer: Best::Pair(e.key, e.score),
+                    discarded: step.discarded,
+                }
+            }
+            Top::Nothing => Bested {
+                heap: settled,
+                answer: Best::Nothing,
+                discarded: step.discarded,
+            },
+        }
+    }
+}
