@@ -9,7 +9,7 @@ use Rattle.time.specs.declared.refusal.Outcome.the-variants.{Done}
 use Rattle.linked_hash_map.specs.Map as map
 use Rattle.linked_hash_map.proofs.Laws as laws
 use Rattle.fast_lru.specs.declared.lru.FastLru.{FastLru}
-use Rattle.fast_lru.specs.Refusals.{wordsFor, ranged, admitted}
+use Rattle.fast_lru.specs.Refusals.{wordsFor, admitted}
 use Rattle.fast_lru.specs.Model.{Distinct}
 use Rattle.fast_lru.specs.Lru.{IsList, items, modelOf, Kept}
 use Rattle.fast_lru.proofs.Items.{distinct-items}
@@ -22,9 +22,6 @@ model-length = slots.model-length
 
 module _ {ws : List ℕ} {l : FastLru} (is : IsList ws l) where
   -- no call is refused on a list
-  pub list-ranged : ranged l ≡ Done
-  list-ranged = limits.list-ranged is
-
   pub list-admitted : admitted l (length ws) ≡ Done
   list-admitted = limits.list-admitted is
 

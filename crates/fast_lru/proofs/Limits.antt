@@ -14,7 +14,7 @@ use Rattle.time.specs.declared.refusal.Refusal.the-variants.{LimitOutOfRange, T
 use Rattle.linked_hash_map.specs.Words as words
 use Rattle.linked_hash_map.specs.Map.{IsMap}
 use Rattle.fast_lru.specs.declared.lru.FastLru.{FastLru}
-use Rattle.fast_lru.specs.Refusals.{wordsFor, opening, outOfRange, ranged, admitted}
+use Rattle.fast_lru.specs.Refusals.{wordsFor, opening, outOfRange, admitted}
 use Rattle.fast_lru.specs.Lru.{IsList, Kept}
 
 -- what is done is not refused
@@ -108,10 +108,6 @@ in-range l h o = rw (le-ltb 4096 (l .map .capacity) h) (go (eqb (l .map .capacit
 module _ {ws : List ℕ} {l : FastLru} (is : IsList ws l) where
   list-in-range : outOfRange l ≡ false
   list-in-range = in-range l (is .map .room .limit) (is .map .opened)
-
-  pub list-ranged : ranged l ≡ Done
-  unfolding ranged
-  list-ranged = rw list-in-range
 
   pub list-admitted : admitted l (length ws) ≡ Done
   list-admitted = admitted-in l (length ws) list-in-range ∙ opening-room (l .map .capacity) (length ws) (is .map .room .limit) (is .words)

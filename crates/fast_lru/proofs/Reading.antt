@@ -9,7 +9,6 @@ use lib.ListN.{length, drop}
 use borrow.Author.Tests.{eq-eqb, ne-eqb}
 use Rattle.time.specs.declared.refusal.Refusal.{Refusal}
 use Rattle.time.specs.declared.refusal.Outcome.the-variants.{Done, Refused}
-use Rattle.time.specs.declared.refusal.Refusal.the-variants.{LimitOutOfRange}
 use Rattle.linked_hash_map.specs.declared.map.Record.{Record}
 use Rattle.linked_hash_map.specs.declared.map.Slot.{Slot}
 use Rattle.linked_hash_map.specs.declared.map.Slot.the-variants as slot
@@ -27,13 +26,13 @@ use Rattle.fast_lru.specs.declared.answers.Rank.the-variants as rank
 use Rattle.fast_lru.specs.declared.answers.Told.{Told}
 use Rattle.fast_lru.specs.declared.answers.Told.the-variants as told
 use Rattle.fast_lru.specs.declared.answers.Count.the-variants as count
-use Rattle.fast_lru.specs.Refusals.{outOfRange, ranged, admitted}
+use Rattle.fast_lru.specs.Refusals.{admitted}
 use Rattle.fast_lru.specs.Model.{tell, rankFrom, rankOf}
 use Rattle.fast_lru.specs.Lru.{modelOf}
 use Rattle.fast_lru.specs.Steps.{isAt, ValueAt, Picking, RankFrom, RankOf}
 use Rattle.fast_lru.specs.Calls.{Length, Emptiness, Capacity, Containing, Peeking, PeekingOldest, Ranking, Checking}
 use Rattle.fast_lru.proofs.Lists.{rank-here, rank-on, rank-past, rank-absent}
-use Rattle.fast_lru.proofs.Limits.{done, admitted-fits, list-ranged, list-admitted}
+use Rattle.fast_lru.proofs.Limits.{done, admitted-fits, list-admitted}
 use Rattle.fast_lru.proofs.Slots.{model-length, place-item, place-past, has-slot}
 
 -- an answer is no refusal
@@ -41,56 +40,17 @@ pub told-never : (b : Bool) (why : Refusal) → tell b ≡ told.Refused why → 
 told-never true why e = let z : _≡_ {A = ℕ} 0 1 = cc in omega arith
 told-never false why e = let z : _≡_ {A = ℕ} 0 1 = cc in omega arith
 
--- ---- the calls that take no words
-module _ (l : FastLru) where
-  module _ (o : outOfRange l ≡ true) where
-    is-ranged : ranged l ≡ Refused LimitOutOfRange
-    unfolding ranged
-    is-ranged = rw o
-
-    pub length-refused : Length l (count.Refused LimitOutOfRange)
-    length-refused = record { refused = λ w e. cc is-ranged; only = λ w e. cc is-ranged; answer = λ ws is. absurd (done (list-ranged is) is-ranged) }
-
-    pub emptiness-refused : Emptiness l (told.Refused LimitOutOfRange)
-    emptiness-refused = record { refused = λ w e. cc is-ranged; only = λ w e. cc is-ranged; answer = λ ws is. absurd (done (list-ranged is) is-ranged) }
-
-    pub capacity-refused : Capacity l (count.Refused LimitOutOfRange)
-    capacity-refused = record { refused = λ w e. cc is-ranged; only = λ w e. cc is-ranged; answer = λ d. absurd (done d is-ranged) }
-
-  module _ (o : outOfRange l ≡ false) where
-    in-range : ranged l ≡ Done
-    unfolding ranged
-    in-range = rw o
-
-    pub length-told : Length l (count.Number (l .map .len))
-    length-told = record {
-      refused = λ w e. absurd (done in-range e);
-      only = λ w e. absurd (let z : _≡_ {A = ℕ} 0 1 = cc in omega arith);
-      answer = λ ws is. ap count.Number (sym (model-length ws l));
-    }
-
-    emptiness : (b : Bool) → b ≡ eqb (l .map .len) 0 → Emptiness l (tell b)
-    emptiness b q = record {
-      refused = λ w e. absurd (done in-range e);
-      only = λ w e. absurd (told-never b w e);
-      answer = λ ws is. ap tell (q ∙ ap (λ (n : ℕ). eqb n 0) (sym (model-length ws l)));
-    }
-
-    pub emptiness-yes : l .map .len ≡ 0 → Emptiness l told.Yes
-    emptiness-yes h = emptiness true (sym (eq-eqb (l .map .len) 0 h))
-
-    pub emptiness-no : (l .map .len ≡ 0 → ⊥) → Emptiness l told.No
-    emptiness-no h = emptiness false (sym (ne-eqb (l .map .len) 0 h))
-
-    pub capacity-told : Capacity l (count.Number (l .map .capacity))
-    capacity-told = record {
-      refused = λ w e. absurd (done in-range e);
-      only = λ w e. absurd (let z : _≡_ {A = ℕ} 0 1 = cc in omega arith);
-      answer = λ d. refl;
-    }
-
--- ---- the others, refused
+-- ---- refused
 module _ {ws : List ℕ} {l : FastLru} {why : Refusal} where
+  pub length-refused : admitted l (length ws) ≡ Refused why → Length ws l (count.Refused why)
+  length-refused p = record { refused = λ w e. cc; only = λ w e. cc; answer = λ is. absurd (done (list-admitted is) p) }
+
+  pub emptiness-refused : admitted l (length ws) ≡ Refused why → Emptiness ws l (told.Refused why)
+  emptiness-refused p = record { refused = λ w e. cc; only = λ w e. cc; answer = λ is. absurd (done (list-admitted is) p) }
+
+  pub capacity-refused : admitted l (length ws) ≡ Refused why → Capacity ws l (count.Refused why)
+  capacity-refused p = record { refused = λ w e. cc; only = λ w e. cc; answer = λ d. absurd (done d p) }
+
   pub containing-refused : (k : ℕ) → admitted l (length ws) ≡ Refused why → Containing ws l k (told.Refused why)
   containing-refused k p = record { refused = λ w e. cc; only = λ w e. cc; answer = λ is. absurd (done (list-admitted is) p) }
 
@@ -113,6 +73,33 @@ module _ {ws : List ℕ} {l : FastLru} {why : Refusal} where
 
 -- ---- and admitted
 module _ {ws : List ℕ} {l : FastLru} (d : admitted l (length ws) ≡ Done) where
+  pub length-told : Length ws l (count.Number (l .map .len))
+  length-told = record {
+    refused = λ w e. absurd (done d e);
+    only = λ w e. absurd (let z : _≡_ {A = ℕ} 0 1 = cc in omega arith);
+    answer = λ is. ap count.Number (sym (model-length ws l));
+  }
+
+  emptiness : (b : Bool) → b ≡ eqb (l .map .len) 0 → Emptiness ws l (tell b)
+  emptiness b q = record {
+    refused = λ w e. absurd (done d e);
+    only = λ w e. absurd (told-never b w e);
+    answer = λ is. ap tell (q ∙ ap (λ (n : ℕ). eqb n 0) (sym (model-length ws l)));
+  }
+
+  pub emptiness-yes : l .map .len ≡ 0 → Emptiness ws l told.Yes
+  emptiness-yes h = emptiness true (sym (eq-eqb (l .map .len) 0 h))
+
+  pub emptiness-no : (l .map .len ≡ 0 → ⊥) → Emptiness ws l told.No
+  emptiness-no h = emptiness false (sym (ne-eqb (l .map .len) 0 h))
+
+  pub capacity-told : Capacity ws l (count.Number (l .map .capacity))
+  capacity-told = record {
+    refused = λ w e. absurd (done d e);
+    only = λ w e. absurd (let z : _≡_ {A = ℕ} 0 1 = cc in omega arith);
+    answer = λ e. refl;
+  }
+
   pub containing : (k : ℕ) (x : Slot) (r : Told) → calls.Finding ws (l .map) k x → r ≡ tell (isAt x) → Containing ws l k r
   containing k x r f q = record {
     refused = λ w e. absurd (done d e);

@@ -23,7 +23,7 @@ use Rattle.fast_lru.specs.declared.answers.Got.{Got}
 use Rattle.fast_lru.specs.declared.answers.Popped.{Popped}
 use Rattle.fast_lru.specs.declared.answers.Touched.{Touched}
 use Rattle.fast_lru.specs.declared.answers.Ranked.{Ranked}
-use Rattle.fast_lru.specs.Refusals.{opening, blank, ranged, admitted}
+use Rattle.fast_lru.specs.Refusals.{opening, blank, admitted}
 use Rattle.fast_lru.specs.Model.{Item, has, without, tell, valueOf, toFront, inserted, oldestOf, popped, rankOf}
 use Rattle.fast_lru.specs.Lru.{IsList, modelOf, Kept}
 
@@ -46,22 +46,22 @@ pub record Clearing (ws : List ℕ) (l : FastLru) (ws′ : List ℕ) (r : Opened
   pub kept : Kept (l .map .capacity) ws ws′
 
 -- `len`
-pub record Length (l : FastLru) (r : Count) : Type 0 where
-  pub refused : (why : Refusal) → ranged l ≡ Refused why → r ≡ count.Refused why
-  pub only : (why : Refusal) → r ≡ count.Refused why → ranged l ≡ Refused why
-  pub answer : (ws : List ℕ) → IsList ws l → r ≡ count.Number (length (modelOf ws l))
+pub record Length (ws : List ℕ) (l : FastLru) (r : Count) : Type 0 where
+  pub refused : (why : Refusal) → admitted l (length ws) ≡ Refused why → r ≡ count.Refused why
+  pub only : (why : Refusal) → r ≡ count.Refused why → admitted l (length ws) ≡ Refused why
+  pub answer : IsList ws l → r ≡ count.Number (length (modelOf ws l))
 
 -- `is_empty`
-pub record Emptiness (l : FastLru) (r : Told) : Type 0 where
-  pub refused : (why : Refusal) → ranged l ≡ Refused why → r ≡ told.Refused why
-  pub only : (why : Refusal) → r ≡ told.Refused why → ranged l ≡ Refused why
-  pub answer : (ws : List ℕ) → IsList ws l → r ≡ tell (eqb (length (modelOf ws l)) 0)
+pub record Emptiness (ws : List ℕ) (l : FastLru) (r : Told) : Type 0 where
+  pub refused : (why : Refusal) → admitted l (length ws) ≡ Refused why → r ≡ told.Refused why
+  pub only : (why : Refusal) → r ≡ told.Refused why → admitted l (length ws) ≡ Refused why
+  pub answer : IsList ws l → r ≡ tell (eqb (length (modelOf ws l)) 0)
 
 -- `capacity`
-pub record Capacity (l : FastLru) (r : Count) : Type 0 where
-  pub refused : (why : Refusal) → ranged l ≡ Refused why → r ≡ count.Refused why
-  pub only : (why : Refusal) → r ≡ count.Refused why → ranged l ≡ Refused why
-  pub answer : ranged l ≡ Done → r ≡ count.Number (l .map .capacity)
+pub record Capacity (ws : List ℕ) (l : FastLru) (r : Count) : Type 0 where
+  pub refused : (why : Refusal) → admitted l (length ws) ≡ Refused why → r ≡ count.Refused why
+  pub only : (why : Refusal) → r ≡ count.Refused why → admitted l (length ws) ≡ Refused why
+  pub answer : admitted l (length ws) ≡ Done → r ≡ count.Number (l .map .capacity)
 
 -- `contains`
 pub record Containing (ws : List ℕ) (l : FastLru) (k : ℕ) (r : Told) : Type 0 where

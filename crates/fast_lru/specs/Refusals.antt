@@ -26,10 +26,6 @@ isBlank l = eqb (l .map .capacity) 0 && (eqb (l .map .len) 0 && eqb (l .map .ref
 unfoldable pub outOfRange : FastLru → Bool
 outOfRange l = ltb 4096 (l .map .capacity) || isBlank l
 
--- the refusal of a call that takes no words, or none
-unfoldable pub ranged : FastLru → Outcome
-ranged l = cond (outOfRange l) (Refused LimitOutOfRange) Done
-
 -- the refusal of any other call, or none
 unfoldable pub admitted : FastLru → ℕ → Outcome
 admitted l size = cond (outOfRange l) (Refused LimitOutOfRange) (opening (l .map .capacity) size)

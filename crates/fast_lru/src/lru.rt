@@ -120,34 +120,40 @@ impl FastLru {
         opening(capacity, size)
     }
 
-    pub fn len(self) -> Count
-        ensures { λ r. ⌜ Length self r ⌝ }
+    pub fn len(self, words: &[u64]) -> Count
+        ensures { λ r. ⌜ Length (now (words .entry)) self r ⌝ }
     {
-        if self.out_of_range() {
-            return Count::Refused(Refusal::LimitOutOfRange);
+        match self.admitted(words.len()) {
+            Outcome::Refused(why) => Count::Refused(why),
+            Outcome::Done => {
+                let map = self.map;
+                Count::Number(map.len)
+            }
         }
-        let map = self.map;
-        Count::Number(map.len)
     }
 
-    pub fn is_empty(self) -> Told
-        ensures { λ r. ⌜ Emptiness self r ⌝ }
+    pub fn is_empty(self, words: &[u64]) -> Told
+        ensures { λ r. ⌜ Emptiness (now (words .entry)) self r ⌝ }
     {
-        if self.out_of_range() {
-            return Told::Refused(Refusal::LimitOutOfRange);
+        match self.admitted(words.len()) {
+            Outcome::Refused(why) => Told::Refused(why),
+            Outcome::Done => {
+                let map = self.map;
+                if map.len == 0 { Told::Yes } else { Told::No }
+            }
         }
-        let map = self.map;
-        if map.len == 0 { Told::Yes } else { Told::No }
     }
 
-    pub fn capacity(self) -> Count
-        ensures { λ r. ⌜ Capacity self r ⌝ }
+    pub fn capacity(self, words: &[u64]) -> Count
+        ensures { λ r. ⌜ Capacity (now (words .entry)) self r ⌝ }
     {
-        if self.out_of_range() {
-            return Count::Refused(Refusal::LimitOutOfRange);
+        match self.admitted(words.len()) {
+            Outcome::Refused(why) => Count::Refused(why),
+            Outcome::Done => {
+                let map = self.map;
+                Count::Number(map.capacity)
+            }
         }
-        let map = self.map;
-        Count::Number(map.capacity)
     }
 
     pub fn contains(self, words: &[u64], key: u64) -> Told

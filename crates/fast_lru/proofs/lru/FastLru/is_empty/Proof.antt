@@ -9,6 +9,8 @@ is-empty-spec =
     tie.close
     (tie.spec
     (λ c κs. search needs)
-    (λ c. emptiness-refused _ (sym (c .before .out-of-range .ensures) ∙ c .if1 .taken))
-    (λ c. emptiness-yes _ (sym (c .before .before .before .before .out-of-range .ensures) ∙ c .before .before .before .if1 .left) (c .if2 .taken))
-    (λ c. emptiness-no _ (sym (c .before .before .before .before .out-of-range .ensures) ∙ c .before .before .before .if1 .left) (c .if2 .left)))
+    (λ c. search needs)
+    (λ c. search needs)
+    (λ c. emptiness-refused (sym (c .before .before .before .admitted .ensures) ∙ c .before .why .given .1))
+    (λ c. let d = c .before .before .before in emptiness-yes (sym (d .before .before .admitted .ensures) ∙ d .enum-told .given .1) (c .if1 .taken))
+    (λ c. let d = c .before .before .before in emptiness-no (sym (d .before .before .admitted .ensures) ∙ d .enum-told .given .1) (c .if1 .left)))

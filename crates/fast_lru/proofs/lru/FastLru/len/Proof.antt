@@ -9,5 +9,7 @@ len-spec =
     tie.close
     (tie.spec
     (λ c κs. search needs)
-    (λ c. length-refused _ (sym (c .before .out-of-range .ensures) ∙ c .if1 .taken))
-    (λ c. length-told _ (sym (c .before .before .out-of-range .ensures) ∙ c .before .if1 .left)))
+    (λ c. search needs)
+    (λ c. search needs)
+    (λ c. length-refused (sym (c .before .before .before .admitted .ensures) ∙ c .before .why .given .1))
+    (λ c. let d = c .before in length-told (sym (d .before .before .admitted .ensures) ∙ d .enum-told .given .1)))
