@@ -79,20 +79,9 @@ module _ (p : ℕ) where
             let a : put w v / weight p / 65536 ≡ w / weight p / 65536 = ap (λ (x : ℕ). x / 65536) (put-above w v) ∙ digits-div (w / weight p / 65536) h in
             rw (higher l (put w v), higher l w, a)
 
-pub cell-lt : (ws : List ℕ) (n p : ℕ) → cellAt ws n p < 65536
-unfolding cellAt
-cell-lt ws n p = mod-lt (getD ws (cellWord n p) 0 / weight p) (lit< tt)
-
 -- word j holds no cell
 abbrev pub Outside : ℕ → ℕ → Type 0
 Outside n j = (j < 5 * n + 10) ⊎ (8 * n + 58 ≤ j)
-
-module _ (n p : ℕ) where
-  pub word-from : 5 * n + 10 ≤ cellWord n p
-  word-from = omega arith
-
-  pub word-to : p < cellCount n → cellWord n p < 8 * n + 58
-  word-to h = omega arith
 
 module _ (ws : List ℕ) (n p v : ℕ) where
   pub set-length : length (setCell ws n p v) ≡ length ws

@@ -1,10 +1,10 @@
 -- A probe sees the cells, and the keys of the records in them, and nothing else.
-use mathlib.Core.Path.{_≡_, refl, sym, ap, _∙_}
-use mathlib.Core.Bool.{Bool, true, false, cond}
+use mathlib.Core.Path.{_≡_, refl}
+use mathlib.Core.Bool.{Bool, true, false}
 use mathlib.Core.List.{List}
 use Prim.Native.Nat.{ℕ, zero, suc, _+_, _-_, _<_, _≤_}
 use native.Mathlib.Omega.{arith}
-use lib.Dec.{ltb, leb, eqb}
+use lib.Dec.{leb, eqb}
 use borrow.Author.Tests.{eqb-false, leb-true}
 use Rattle.cells.specs.Cells.{keyAt, cellCount, cellAt, cellAfter, homeOf}
 use Rattle.cells.specs.Probe.{probeFrom, probe}

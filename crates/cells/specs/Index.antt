@@ -1,7 +1,7 @@
 -- What it means that the cells index some records.
 use mathlib.Core.Path.{_≡_}
 use mathlib.Core.List.{List, [], _∷_, List·Memᴰ}
-use mathlib.Core.Bool.{Bool, _&&_, cond}
+use mathlib.Core.Bool.{_&&_, cond}
 use Prim.Native.Nat.{ℕ, zero, suc, _+_, _-_, _<_}
 use lib.Dec.{leb}
 use Rattle.cells.specs.Cells.{keyAt, cellCount, cellAt, cellAfter, homeOf}

@@ -1,6 +1,6 @@
 -- Linear probing: what a probe finds, and which cell it offers for a new record.
 use mathlib.Core.List.{List, [], _∷_}
-use mathlib.Core.Bool.{Bool, cond}
+use mathlib.Core.Bool.{cond}
 use Prim.Native.Nat.{ℕ, zero, suc, _+_, _-_}
 use lib.Dec.{ltb, leb, eqb}
 use Rattle.cells.specs.declared.Probe.{Probe}

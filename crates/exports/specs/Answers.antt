@@ -11,6 +11,7 @@ use Rattle.linked_hash_map.specs.declared.map.Taken.the-variants as taken
 use Rattle.linked_hash_map.specs.declared.map.Opened.{Opened}
 use Rattle.linked_hash_map.specs.declared.map.Put.{Put}
 use Rattle.linked_hash_map.specs.declared.map.Removed.{Removed}
+use Rattle.linked_hash_map.specs.Calls.{zeros}
 use Rattle.exports.specs.declared.answer.Answer.{Answer}
 use Rattle.exports.specs.declared.answer.Answer.the-variants as answer
 use Rattle.exports.specs.declared.call.Reply.{Reply}
@@ -57,9 +58,6 @@ codeOf (answer.Replaced r) = 6
 codeOf answer.Full = 7
 codeOf answer.Refused = 8
 codeOf answer.Unknown = 9
-
-abbrev zeros : Record
-zeros = record { key = 0; first = 0; second = 0 }
 
 -- the other three
 abbrev pub payloadOf : Answer → Record

@@ -12,7 +12,7 @@ use Rattle.binary_heap.specs.Order.{is, count}
 use Rattle.binary_heap.proofs.Counts.{Is, same, other, which}
 use Rattle.linked_hash_map.specs.declared.map.Record.{Record}
 use Rattle.linked_hash_map.specs.Model.{Distinct}
-use Rattle.lazy_heap.specs.Model.{Heap, entryOf, fromLive, surplus, tooMany, rebuilt, numbered, renumbered, settled, isFull, beforePush, pushed, updated, updateDiscards, peeked, popped, poppedFrom}
+use Rattle.lazy_heap.specs.Model.{Heap, entryOf, fromLive, surplus, tooMany, rebuilt, numbered, renumbered, maybeRebuilt, isFull, beforePush, pushed, updated, updateDiscards, peeked, popped, poppedFrom}
 use Rattle.lazy_heap.specs.Valid.{Valid}
 use Rattle.lazy_heap.specs.Calls.{stale}
 use Rattle.lazy_heap.proofs.Helds.{missing-key}
@@ -66,9 +66,9 @@ unfolding renumbered
 renumbered-accounts m v = omega (arith, live-fit m v, live-length (numbered (m .held)), numbered-length (m .held))
 
 -- `maybe_rebuild`
-pub settled-accounts : (f : ℕ) (m : Heap) → Valid m → cond (tooMany f m) (surplus m) 0 + length (settled f m .entries) ≡ length (m .entries)
-unfolding settled
-settled-accounts f m v = go (tooMany f m)
+pub maybe-rebuilt-accounts : (f : ℕ) (m : Heap) → Valid m → cond (tooMany f m) (surplus m) 0 + length (maybeRebuilt f m .entries) ≡ length (m .entries)
+unfolding maybeRebuilt
+maybe-rebuilt-accounts f m v = go (tooMany f m)
   where
     go : (b : Bool) → cond b (surplus m) 0 + length (cond b (rebuilt m) m .entries) ≡ length (m .entries)
     go true = rebuilt-accounts m v
@@ -105,4 +105,4 @@ unfolding updated updateDiscards
 updated-accounts k s m f l w new =
     let r = ready k m f l w in
     let v = valid-pushed k s (beforePush m) (r .fair .valid) (room-without k (beforePush m) (r .fair .valid .few) (r .full ∙ new)) in
-    omega (arith, before-accounts m (f .valid), push-length k s (beforePush m), settled-accounts (m .factor) (pushed k s (beforePush m)) v)
+    omega (arith, before-accounts m (f .valid), push-length k s (beforePush m), maybe-rebuilt-accounts (m .factor) (pushed k s (beforePush m)) v)

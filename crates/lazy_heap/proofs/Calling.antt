@@ -26,7 +26,7 @@ use Rattle.lazy_heap.specs.declared.heap.Step.{Step}
 use Rattle.lazy_heap.specs.declared.heap.Score.{Score}
 use Rattle.lazy_heap.specs.Answers.{ofScore}
 use Rattle.lazy_heap.specs.Words.{wordsFor, start, part, limitsOf, limitsWith, Room, Kept}
-use Rattle.lazy_heap.specs.Model.{Heap, atLeastOne, surplus, tooMany, heldScore, opened, withFactor, removed, peeked, rebuilt, settled, numbered, renumbered, cleared}
+use Rattle.lazy_heap.specs.Model.{Heap, atLeastOne, surplus, tooMany, heldScore, opened, withFactor, removed, peeked, rebuilt, maybeRebuilt, numbered, renumbered, cleared}
 use Rattle.lazy_heap.specs.Valid.{Valid}
 use Rattle.lazy_heap.specs.Heap.{modelOf, Parts, IsHeap}
 use Rattle.lazy_heap.specs.Steps.{Rebuilding, Renumbering, Trimming}
@@ -129,9 +129,9 @@ fair-rebuilt {m} f = record {
   factor = f .factor;
 }
 
-fair-settled : {m : Heap} (g : ℕ) → Fair m → Fair (settled g m)
-unfolding settled
-fair-settled {m} g f = go (tooMany g m)
+fair-maybe-rebuilt : {m : Heap} (g : ℕ) → Fair m → Fair (maybeRebuilt g m)
+unfolding maybeRebuilt
+fair-maybe-rebuilt {m} g f = go (tooMany g m)
   where
     go : (b : Bool) → Fair (cond b (rebuilt m) m)
     go true = fair-rebuilt f
@@ -189,10 +189,10 @@ module _ (ws : List ℕ) (h : LazyMinHeap) where
       model = same-heap refl e refl refl refl
 
 -- ---- rebuilding where there are too many
-pub maybe-call : {ws ws′ : List ℕ} {h : LazyMinHeap} (f : ℕ) {r : Step} → limitsWith (h .scores .capacity) (length ws) f ≡ Done → Trimming ws h f ws′ r → Call ws h (limitsWith (h .scores .capacity) (length ws) f) Done (settled f) (maybeDiscards f) ws′ (r .heap) (r .discarded)
+pub maybe-call : {ws ws′ : List ℕ} {h : LazyMinHeap} (f : ℕ) {r : Step} → limitsWith (h .scores .capacity) (length ws) f ≡ Done → Trimming ws h f ws′ r → Call ws h (limitsWith (h .scores .capacity) (length ws) f) Done (maybeRebuilt f) (maybeDiscards f) ws′ (r .heap) (r .discarded)
 maybe-call {ws} {ws′} {h} f {r} t k =
     let b = with-room (h .scores .capacity) (length ws) f t .1 in
-    call-done refl t (λ is. heap-again (k .parts (is .parts)) (k .model (is .parts) b) (fair-settled f (fair-heap is))) (λ is. k .model (is .parts) b) (λ is. k .discarded (is .parts) b) (k .kept)
+    call-done refl t (λ is. heap-again (k .parts (is .parts)) (k .model (is .parts) b) (fair-maybe-rebuilt f (fair-heap is))) (λ is. k .model (is .parts) b) (λ is. k .discarded (is .parts) b) (k .kept)
 
 -- ---- opening and clearing
 fits : {n l : ℕ} → Room l n → fit n l ≡ true

@@ -14,15 +14,15 @@ use Rattle.binary_heap.specs.Order.{le, Sorted}
 use Rattle.binary_heap.proofs.Laws.{le-same}
 use Rattle.rings.proofs.Counts.{by-lt}
 use Rattle.linked_hash_map.specs.declared.map.Record.{Record}
-use Rattle.lazy_heap.specs.Model.{Heap, live, fromLive, atLeastOne, tooMany, rebuilt, settled, updated}
+use Rattle.lazy_heap.specs.Model.{Heap, live, fromLive, atLeastOne, tooMany, rebuilt, maybeRebuilt, updated}
 use Rattle.lazy_heap.specs.Valid.{Valid}
 use Rattle.lazy_heap.proofs.Valid.{live-length, sorted-from, sorted-cons}
 -- a heap is within its limits, and its model keeps what every heap's does
 pub use Rattle.lazy_heap.proofs.Calling.{limits-room, room-limits, with-room, Fair, fair-heap}
 -- entries discarded and entries left are entries there were, and one more for an update
-pub use Rattle.lazy_heap.proofs.Accounts.{live-fit, rebuilt-accounts, renumbered-accounts, settled-accounts, cleared-accounts, peeked-accounts, popped-accounts, updated-accounts}
+pub use Rattle.lazy_heap.proofs.Accounts.{live-fit, rebuilt-accounts, renumbered-accounts, maybe-rebuilt-accounts, cleared-accounts, peeked-accounts, popped-accounts, updated-accounts}
 -- no two entries share a sequence number, whatever is called
-pub use Rattle.lazy_heap.proofs.Numbers.{different-none, different-rebuilt, different-renumbered, different-settled, different-updated, different-removed, different-peeked, different-popped}
+pub use Rattle.lazy_heap.proofs.Numbers.{different-none, different-rebuilt, different-renumbered, different-maybe-rebuilt, different-updated, different-removed, different-peeked, different-popped}
 
 -- ---- the best entry is the least of the live ones
 module _ (held : List Record) where
@@ -44,9 +44,9 @@ best-least m v e es q x in-heap l =
     first = sorted-cons e es (rw q at (sorted-from (m .held) (m .entries) (v .sorted)))
 
 -- ---- after an update there are at most factor × keys held entries
-settled-bound : (f : ℕ) (m : Heap) → 1 ≤ f → length (settled f m .entries) ≤ f * length (settled f m .held)
-unfolding settled rebuilt
-settled-bound f m one = go (tooMany f m) refl
+maybe-rebuilt-bound : (f : ℕ) (m : Heap) → 1 ≤ f → length (maybeRebuilt f m .entries) ≤ f * length (maybeRebuilt f m .held)
+unfolding maybeRebuilt rebuilt
+maybe-rebuilt-bound f m one = go (tooMany f m) refl
   where
     go : (b : Bool) → tooMany f m ≡ b → length (cond b (rebuilt m) m .entries) ≤ f * length (cond b (rebuilt m) m .held)
     go true q = let self : length (m .held) ≤ length (m .held) = omega arith in omega (arith, live-length (m .held), mul-le-mul one self)
@@ -56,4 +56,4 @@ settled-bound f m one = go (tooMany f m) refl
 
 pub updated-bound : (k s : ℕ) (m : Heap) → 1 ≤ m .factor → length (updated k s m .entries) ≤ m .factor * length (updated k s m .held)
 unfolding updated
-updated-bound k s m one = settled-bound (m .factor) _ one
+updated-bound k s m one = maybe-rebuilt-bound (m .factor) _ one

@@ -11,7 +11,7 @@ use borrow.Author.Tests.{ne-eqb, eqb-true}
 use Rattle.binary_heap.specs.declared.entries.Entry.{Entry}
 use Rattle.binary_heap.specs.Order.{le, insert, sort}
 use Rattle.linked_hash_map.specs.declared.map.Record.{Record}
-use Rattle.lazy_heap.specs.Model.{Heap, entryOf, live, fromLive, tooMany, rebuilt, numbered, renumbered, isFull, beforePush, pushed, settled, updated, removed, peeked, popped, poppedFrom}
+use Rattle.lazy_heap.specs.Model.{Heap, entryOf, live, fromLive, tooMany, rebuilt, numbered, renumbered, isFull, beforePush, pushed, maybeRebuilt, updated, removed, peeked, popped, poppedFrom}
 use Rattle.lazy_heap.specs.Valid.{Falling, Valid, withNumber, Different}
 use Rattle.lazy_heap.proofs.Valid.{numbered-falling, valid-pushed}
 use Rattle.lazy_heap.proofs.Calling.{Fair}
@@ -87,9 +87,9 @@ different-pushed k n h v d s = rw (number-insert s (entryOf (record { key = k; f
     one true q = let e = eqb-true (h .next) s q in omega (arith, number-fresh s (h .entries) (λ y m. omega (arith, v .below y m)))
     one false q = omega (arith, d s)
 
-pub different-settled : (f : ℕ) (h : Heap) → Valid h → Different h → Different (settled f h)
-unfolding settled
-different-settled f h v d = go (tooMany f h)
+pub different-maybe-rebuilt : (f : ℕ) (h : Heap) → Valid h → Different h → Different (maybeRebuilt f h)
+unfolding maybeRebuilt
+different-maybe-rebuilt f h v d = go (tooMany f h)
   where
     go : (b : Bool) → Different (cond b (rebuilt h) h)
     go true = different-rebuilt h v
@@ -100,7 +100,7 @@ unfolding updated beforePush
 different-updated k n h f l w new d =
     let r = ready k h f l w in
     let v = r .fair .valid in
-    different-settled (h .factor) (pushed k n (beforePush h)) (valid-pushed k n (beforePush h) v (room-without k (beforePush h) (v .few) (r .full ∙ new)))
+    different-maybe-rebuilt (h .factor) (pushed k n (beforePush h)) (valid-pushed k n (beforePush h) v (room-without k (beforePush h) (v .few) (r .full ∙ new)))
     (different-pushed k n (beforePush h) v (go (eqb (h .next) (2 ^ 64 - 1))))
   where
     go : (b : Bool) → Different (cond b (renumbered h) h)

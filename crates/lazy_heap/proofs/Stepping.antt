@@ -32,7 +32,7 @@ use Rattle.lazy_heap.specs.declared.heap.Score.the-variants as score
 use Rattle.time.specs.declared.refusal.Outcome.the-variants.{Done}
 use Rattle.lazy_heap.specs.Answers.{ofScore}
 use Rattle.lazy_heap.specs.Words.{wordsFor, start, part, Kept}
-use Rattle.lazy_heap.specs.Model.{Heap, entryOf, atLeastOne, liveEntries, surplus, tooMany, rebuilt, numbered, renumbered, isFull, beforePush, pushed, settled, heldScore}
+use Rattle.lazy_heap.specs.Model.{Heap, entryOf, atLeastOne, liveEntries, surplus, tooMany, rebuilt, numbered, renumbered, isFull, beforePush, pushed, maybeRebuilt, heldScore}
 use Rattle.lazy_heap.specs.Heap.{heldOf, entriesOf, modelOf, Parts}
 use Rattle.lazy_heap.specs.Steps.{after, replacedScore, Crowding, Pushing, Rebuilding, Numbered, Renumbering, Fitting, Trimming, Holding}
 use Rattle.lazy_heap.proofs.Parts.{part-same}
@@ -151,7 +151,7 @@ module _ {ws : List ℕ} {h : LazyMinHeap} {f : ℕ} {b : Bool} (c : Crowding f 
       ∙ sym (c .answer g (omega (arith, p .scores .count, p .room .limit)))
 
   pub trimming-rebuilt : {ws′ : List ℕ} {r : LazyMinHeap} {d : ℕ} → b ≡ true → Rebuilding ws h ws′ r → d ≡ h .entries - h .scores .len → Trimming ws h f ws′ (record { heap = r; discarded = d })
-  unfolding settled
+  unfolding maybeRebuilt
   trimming-rebuilt t k d = record {
     scores = k .entered .scores;
     parts = k .parts;
@@ -162,7 +162,7 @@ module _ {ws : List ℕ} {h : LazyMinHeap} {f : ℕ} {b : Bool} (c : Crowding f 
   }
 
   pub trimming-same : b ≡ false → Trimming ws h f ws (record { heap = h; discarded = 0 })
-  unfolding settled
+  unfolding maybeRebuilt
   trimming-same t = record {
     scores = refl;
     parts = λ p. p;

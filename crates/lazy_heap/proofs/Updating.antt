@@ -27,7 +27,7 @@ use Rattle.lazy_heap.specs.declared.heap.Step.{Step}
 use Rattle.lazy_heap.specs.declared.heap.Held.{Held}
 use Rattle.lazy_heap.specs.declared.heap.Score.the-variants as score
 use Rattle.lazy_heap.specs.Words.{part, limitsOf, Room}
-use Rattle.lazy_heap.specs.Model.{Heap, entryOf, atLeastOne, surplus, tooMany, numbered, heldScore, isFull, beforePush, renumbered, pushed, rebuilt, settled, updated, updateDiscards}
+use Rattle.lazy_heap.specs.Model.{Heap, entryOf, atLeastOne, surplus, tooMany, numbered, heldScore, isFull, beforePush, renumbered, pushed, rebuilt, maybeRebuilt, updated, updateDiscards}
 use Rattle.lazy_heap.specs.Valid.{Valid}
 use Rattle.lazy_heap.specs.Heap.{heldOf, entriesOf, modelOf, Parts, IsHeap}
 use Rattle.lazy_heap.specs.Steps.{Filling, Adding, Fitting, Holding, Trimming}
@@ -148,8 +148,8 @@ push-frame : (k s : ℕ) (n : Heap) → (pushed k s n .limit ≡ n .limit) × (p
 unfolding pushed
 push-frame k s n = (refl, refl)
 
-fair-fit : (g : ℕ) (n : Heap) → Valid n → g ≤ 8 → (1 ≤ n .factor) × (n .factor ≤ 8) → length (n .entries) ≤ 8 * n .limit + 1 → Fair (settled g n)
-unfolding settled rebuilt
+fair-fit : (g : ℕ) (n : Heap) → Valid n → g ≤ 8 → (1 ≤ n .factor) × (n .factor ≤ 8) → length (n .entries) ≤ 8 * n .limit + 1 → Fair (maybeRebuilt g n)
+unfolding maybeRebuilt rebuilt
 fair-fit g n v b f e = go (tooMany g n) refl
   where
     go : (u : Bool) → tooMany g n ≡ u → Fair (cond u (rebuilt n) n)
@@ -191,7 +191,7 @@ module _ {ws ws₁ ws₂ ws′ : List ℕ} {h : LazyMinHeap} {k s : ℕ} {a : St
 
     third-is : modelOf ws′ (c .heap) ≡ updated k s m
     unfolding updated
-    third-is = trim .model parts₂ (is .factor .1) ∙ ap (settled (h .factor)) second-is
+    third-is = trim .model parts₂ (is .factor .1) ∙ ap (maybeRebuilt (h .factor)) second-is
 
     fair₃ : Fair (updated k s m)
     unfolding updated

@@ -25,7 +25,7 @@ use Rattle.lazy_heap.specs.declared.heap.Bested.{Bested}
 use Rattle.lazy_heap.specs.declared.heap.Stepped.{Stepped}
 use Rattle.lazy_heap.specs.Answers.{ofScore, ofBest, ofNumber, ofFlag}
 use Rattle.lazy_heap.specs.Words.{limitsOf, limitsWith, Kept}
-use Rattle.lazy_heap.specs.Model.{Heap, surplus, tooMany, len, heldScore, bestIn, staleBefore, fromLive, opened, withFactor, isFull, updated, updateDiscards, removed, peeked, popped, rebuilt, settled, renumbered, cleared}
+use Rattle.lazy_heap.specs.Model.{Heap, surplus, tooMany, len, heldScore, bestIn, staleBefore, fromLive, opened, withFactor, isFull, updated, updateDiscards, removed, peeked, popped, rebuilt, maybeRebuilt, renumbered, cleared}
 use Rattle.lazy_heap.specs.Heap.{modelOf, IsHeap}
 
 -- the numbers of a refused opening
@@ -74,7 +74,7 @@ abbrev pub maybeDiscards : ℕ → Heap → ℕ
 maybeDiscards f h = cond (tooMany f h) (surplus h) 0
 
 abbrev pub RebuildingMaybe : List ℕ → LazyMinHeap → ℕ → List ℕ → Stepped → Type 0
-RebuildingMaybe ws h f ws′ r = Stepping ws h (limitsWith (h .scores .capacity) (length ws) f) (settled f) (maybeDiscards f) ws′ r
+RebuildingMaybe ws h f ws′ r = Stepping ws h (limitsWith (h .scores .capacity) (length ws) f) (maybeRebuilt f) (maybeDiscards f) ws′ r
 
 -- `renumber_seqs`
 abbrev pub RenumberingNow : List ℕ → LazyMinHeap → List ℕ → Stepped → Type 0

@@ -127,11 +127,11 @@ pushed k s h =
     record { limit = h .limit; factor = h .factor; next = h .next + 1; held = r ∷ without k (h .held); entries = insert (entryOf r) (h .entries) }
 
 -- "then rebuilds if entries > factor × keys held"
-unfoldable pub settled : ℕ → Heap → Heap
-settled f h = cond (tooMany f h) (rebuilt h) h
+unfoldable pub maybeRebuilt : ℕ → Heap → Heap
+maybeRebuilt f h = cond (tooMany f h) (rebuilt h) h
 
 unfoldable pub updated : ℕ → ℕ → Heap → Heap
-updated k s h = settled (h .factor) (pushed k s (beforePush h))
+updated k s h = maybeRebuilt (h .factor) (pushed k s (beforePush h))
 
 -- "entries - held at a renumbering, before the push, plus entries - held at a rebuild, after it"
 unfoldable pub updateDiscards : ℕ → ℕ → Heap → ℕ

@@ -29,7 +29,7 @@ use Rattle.lazy_heap.specs.declared.heap.Best.the-variants as best
 use Rattle.time.specs.declared.refusal.Outcome.the-variants.{Done}
 use Rattle.lazy_heap.specs.Answers.{ofScore}
 use Rattle.lazy_heap.specs.Words.{start, Kept}
-use Rattle.lazy_heap.specs.Model.{live, staleBefore, fromLive, atLeastOne, surplus, liveEntries, numbered, renumbered, tooMany, isFull, beforePush, settled, pushed, heldScore}
+use Rattle.lazy_heap.specs.Model.{live, staleBefore, fromLive, atLeastOne, surplus, liveEntries, numbered, renumbered, tooMany, isFull, beforePush, maybeRebuilt, pushed, heldScore}
 use Rattle.lazy_heap.specs.Heap.{heldOf, entriesOf, modelOf, Parts}
 
 -- the number after s, which is not the last
@@ -142,7 +142,7 @@ pub record Fitting (ws : List ℕ) (h : LazyMinHeap) (ws′ : List ℕ) (r : Ste
 pub record Trimming (ws : List ℕ) (h : LazyMinHeap) (f : ℕ) (ws′ : List ℕ) (r : Step) : Type 0 where
   pub scores : r .heap .scores ≡ h .scores
   pub parts : Parts ws h → Parts ws′ (r .heap)
-  pub model : Parts ws h → f ≤ 8 → modelOf ws′ (r .heap) ≡ settled f (modelOf ws h)
+  pub model : Parts ws h → f ≤ 8 → modelOf ws′ (r .heap) ≡ maybeRebuilt f (modelOf ws h)
   pub discarded : Parts ws h → f ≤ 8 → r .discarded ≡ cond (tooMany f (modelOf ws h)) (surplus (modelOf ws h)) 0
   pub small : r .discarded ≤ h .entries
   pub kept : Kept (h .scores .capacity) ws ws′

@@ -9,7 +9,7 @@
 // or all at once when there are too many.
 //
 // An update, and a pop of each entry, takes logarithmic time; the rest is constant but for `rebuild`, `renumber_seqs`,
-// `clear`, opening and `check`.
+// `clear` and opening.
 mod heap;
 
 pub use heap::Best;
@@ -17,6 +17,7 @@ pub use heap::Bested;
 pub use heap::Flag;
 pub use heap::LazyMinHeap;
 pub use heap::Number;
+pub use heap::Opened;
 pub use heap::Score;
 pub use heap::Stepped;
 pub use heap::Updated;

@@ -1,22 +1,22 @@
 -- `check`: its four tests together say exactly what a map is.
 use mathlib.Core.Path.{_≡_, refl, sym, ap, _∙_}
 use mathlib.Core.Bool.{Bool, true, false, true≢false, _&&_}
-use mathlib.Core.List.{List, [], _∷_, List·Memᴰ}
+use mathlib.Core.List.{List, List·Memᴰ}
 use mathlib.Core.List.{List·Memᴰ·head as head, List·Memᴰ·tail as tail, List·Memᴰ·cases-cons as cases-cons, List·Memᴰ·not-nil as not-nil}
 use mathlib.Core.Logic.{⊎-elim}
-use Prim.Native.Nat.{ℕ, zero, suc, _+_, _-_, _*_, _<_, _≤_}
+use Prim.Native.Nat.{ℕ, zero, suc, _+_, _-_, _<_, _≤_}
 use native.Mathlib.Omega.{arith}
 use lib.Dec.{ltb, eqb}
 use lib.ListN.{length}
-use borrow.Author.Tests.{lt-ltb, eq-eqb, eqb-true, ltb-true}
+use borrow.Author.Tests.{lt-ltb, eq-eqb, eqb-true}
 use Rattle.rings.specs.Ring.{next, along, walks, Two}
-use Rattle.rings.proofs.Two.{along-ring, count-le-one, one-is-below}
-use Rattle.rings.proofs.Walks.{one-walks, other-walks, two-of-walks, length-along}
+use Rattle.rings.proofs.Two.{count-le-one, one-is-below}
+use Rattle.rings.proofs.Walks.{one-walks, other-walks, two-of-walks}
 use Rattle.cells.specs.declared.Probe.{Probe}
 use Rattle.cells.specs.declared.Probe.the-variants as probed
 use Rattle.cells.specs.Cells.{keyAt, cellCount}
 use Rattle.cells.specs.Probe.{probe}
-use Rattle.cells.specs.Index.{IndexOf, heldIn}
+use Rattle.cells.specs.Index.{heldIn}
 use Rattle.cells.proofs.Indexing.{live-found}
 use Rattle.cells.proofs.Exact.{index-counts, count-indexes}
 use Rattle.linked_hash_map.specs.declared.map.LinkedHashMap.{LinkedHashMap}
@@ -26,7 +26,6 @@ use Rattle.linked_hash_map.specs.Map.{IsMap, liveOf, freeOf}
 use Rattle.linked_hash_map.specs.Calls.{Checking}
 use Rattle.linked_hash_map.proofs.Refill.{distinct}
 use Rattle.linked_hash_map.proofs.Probed.{live-length, free-length}
-use Rattle.linked_hash_map.proofs.Finding.{unfit}
 use Rattle.linked_hash_map.proofs.Limits.{is-room}
 
 -- a probe that ends at the record

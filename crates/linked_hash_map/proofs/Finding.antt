@@ -1,34 +1,30 @@
 -- `find`, `touch`, `record` and `set_payload`: a probe leads to the key's record, or shows that there is none.
 use mathlib.Core.Path.{_≡_, refl, sym, ap, _∙_}
 use mathlib.Core.Bool.{Bool, true, false, true≢false, cond}
-use mathlib.Core.Logic.{inl, inr}
-use mathlib.Core.List.{List, [], _∷_, map, List·Memᴰ}
-use Prim.Native.Nat.{ℕ, zero, suc, _+_, _-_, _*_, _<_, _≤_}
+use mathlib.Core.List.{List, _∷_, map}
+use Prim.Native.Nat.{ℕ, _+_, _<_, _≤_}
 use native.Mathlib.Omega.{arith}
 use lib.Dec.{ltb}
 use lib.ListN.{length, getD}
-use borrow.Author.Tests.{lt-ltb, le-ltb, ltb-true, ltb-false}
+use borrow.Author.Tests.{lt-ltb, ltb-true}
 use Rattle.rings.specs.Ring as ring
-use Rattle.rings.proofs.Counts.{mem-without}
 use Rattle.rings.proofs.Two.{length-without-one}
 use Rattle.cells.specs.declared.Probe.the-variants as probed
-use Rattle.cells.specs.Cells.{keyAt}
 use Rattle.cells.specs.Probe.{probe}
 use Rattle.cells.proofs.Probing.{at-found}
 use Rattle.linked_hash_map.specs.declared.map.LinkedHashMap.{LinkedHashMap}
 use Rattle.linked_hash_map.specs.declared.map.Record.{Record}
-use Rattle.linked_hash_map.specs.declared.map.Slot.{Slot}
 use Rattle.linked_hash_map.specs.declared.map.Slot.the-variants as slot
 use Rattle.linked_hash_map.specs.declared.map.Taken.the-variants as taken
 use Rattle.linked_hash_map.specs.Words.{fit, recordAt, written}
-use Rattle.linked_hash_map.specs.Model.{Model, has, lookup, nth, without, toFront, withPayload}
+use Rattle.linked_hash_map.specs.Model.{Model, lookup, nth, without, toFront}
 use Rattle.linked_hash_map.specs.Map.{IsMap, liveOf, freeOf, modelOf, slotOf, slotAt}
-use Rattle.linked_hash_map.specs.Calls.{Finding, Touching, Reading, Writing}
+use Rattle.linked_hash_map.specs.Calls.{zeros, Finding, Touching, Reading, Writing}
 use Rattle.linked_hash_map.proofs.Records.{records, Search, found, missing, search-key, record-at, records-same, records-written, payload-missing, mem-at, without-records}
 use Rattle.linked_hash_map.proofs.Frames.{record-moved, record-written, record-written-other}
 use Rattle.linked_hash_map.proofs.Laid.{Laid, of-map, to-map, live-is, live-below, laid-front, laid-written}
 use Rattle.linked_hash_map.proofs.Keeping.{kept-same, kept-moved, kept-written}
-use Rattle.linked_hash_map.proofs.Probed.{map-fits, Hit, Miss, hit, miss, live-length}
+use Rattle.linked_hash_map.proofs.Probed.{map-fits, hit, miss, live-length}
 
 -- words that do not fit are no map
 pub unfit : {ws : List ℕ} {m : LinkedHashMap} → fit (m .capacity) (length ws) ≡ false → IsMap ws m → ⊥
@@ -102,9 +98,14 @@ module _ {ws : List ℕ} {m : LinkedHashMap} (k : ℕ) where
     }
 
 -- ---- record
-pub reading : (ws : List ℕ) (m : LinkedHashMap) (s : ℕ) → Reading ws m s (recordAt ws s)
+pub reading : (ws : List ℕ) (m : LinkedHashMap) (s : ℕ) → fit (m .capacity) (length ws) ≡ true → s < m .capacity → Reading ws m s (recordAt ws s)
 unfolding slotOf modelOf
-reading ws m s = record { keyed = λ is k e. go k (search-key ws k (liveOf ws m)) e; placed = λ is i e. at i (place-slot ws m i s e) }
+reading ws m s room h = record {
+  refused = λ e. absurd (true≢false (sym room ∙ e));
+  past = λ e. absurd (omega arith);
+  keyed = λ is k e. go k (search-key ws k (liveOf ws m)) e;
+  placed = λ is i e. at i (place-slot ws m i s e);
+}
   where
     go : (k : ℕ) → Search ws k (liveOf ws m) → slotOf ws m k ≡ slot.At s → lookup k (modelOf ws m) ≡ taken.Record (recordAt ws s)
     go k (found r q d a b h) e = let same : r ≡ s = cc in b ∙ ap (λ (x : ℕ). taken.Record (recordAt ws x)) same
@@ -114,9 +115,14 @@ reading ws m s = record { keyed = λ is k e. go k (search-key ws k (liveOf ws m)
     at i (h, e) = record-at ws (liveOf ws m) i 0 (omega (arith, live-length ws m)) ∙ ap (λ (x : ℕ). taken.Record (recordAt ws x)) e
 
 -- a slot that is no record has no key and no place
-pub reading-none : (ws : List ℕ) (m : LinkedHashMap) (s : ℕ) (r : Record) → (IsMap ws m → m .capacity ≤ s) → Reading ws m s r
+pub reading-none : (ws : List ℕ) (m : LinkedHashMap) (s : ℕ) → (IsMap ws m → m .capacity ≤ s) → Reading ws m s zeros
 unfolding slotOf
-reading-none ws m s r out = record { keyed = λ is k e. absurd (go k is (search-key ws k (liveOf ws m)) e); placed = λ is i e. absurd (at i is (place-slot ws m i s e)) }
+reading-none ws m s out = record {
+  refused = λ e. refl;
+  past = λ e. refl;
+  keyed = λ is k e. absurd (go k is (search-key ws k (liveOf ws m)) e);
+  placed = λ is i e. absurd (at i is (place-slot ws m i s e));
+}
   where
     go : (k : ℕ) → IsMap ws m → Search ws k (liveOf ws m) → slotOf ws m k ≡ slot.At s → ⊥
     go k is (found x q d a b h) e = let same : x ≡ s = cc in omega (arith, live-below (of-map is) q, out is)

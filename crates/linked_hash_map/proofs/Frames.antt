@@ -1,13 +1,13 @@
 -- Which words a change leaves alone: links, records and cells lie apart, so that a change of one kind shows in no other.
-use mathlib.Core.Path.{_≡_, refl, sym, ap, _∙_}
-use mathlib.Core.Logic.{_⊎_, inl, inr, _≢_}
+use mathlib.Core.Path.{_≡_, _∙_}
+use mathlib.Core.Logic.{_≢_}
 use mathlib.Core.List.{List}
 use Prim.Native.Nat.{ℕ, _+_, _*_, _%_, _<_, _≤_}
 use native.Mathlib.Omega.{arith}
 use lib.ListN.{length, getD, set, length-set}
 use lib.Seq.{getD-set-same, getD-set-other}
 use Rattle.rings.specs.Ring.{prev, next, moved}
-use Rattle.rings.proofs.Links.{getD-moved, past-moved}
+use Rattle.rings.proofs.Links.{getD-moved}
 use Rattle.linked_hash_map.specs.declared.map.Record.{Record}
 use Rattle.linked_hash_map.specs.Words.{recordAt, written}
 

@@ -1,9 +1,9 @@
 -- No call touches a word past the map's own, whatever the words hold.
-use mathlib.Core.Path.{_≡_, refl, sym, ap, _∙_}
+use mathlib.Core.Path.{_≡_, refl, _∙_}
 use mathlib.Core.Bool.{Bool, true, false, cond}
-use mathlib.Core.Logic.{inl, inr}
+use mathlib.Core.Logic.{inr}
 use mathlib.Core.List.{List}
-use Prim.Native.Nat.{ℕ, zero, suc, _+_, _*_, _<_, _≤_}
+use Prim.Native.Nat.{ℕ, zero, suc, _+_, _<_}
 use native.Mathlib.Omega.{arith}
 use lib.Dec.{ltb}
 use lib.ListN.{length, getD}
@@ -17,7 +17,6 @@ use Rattle.cells.proofs.Indexing.{entered-length, entered-outside, erased-lengt
 use Rattle.linked_hash_map.specs.declared.map.Record.{Record}
 use Rattle.linked_hash_map.specs.Words.{Kept, written, replaced, takenOut, putIn, filled, emptied, enteredFrom, refilled}
 use Rattle.linked_hash_map.proofs.Frames.{length-written, written-other}
-use Rattle.linked_hash_map.proofs.Refill.{length-filled}
 
 pub kept-same : (n : ℕ) (ws : List ℕ) → Kept n ws ws
 kept-same n ws = record { size = refl; past = λ j h. refl }

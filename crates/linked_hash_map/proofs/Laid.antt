@@ -1,16 +1,16 @@
 -- Maps laid out in words, with the slots of their live and free records in hand: what each change of the words makes of
 -- the two lists. Links, records and cells lie apart, so that each change touches one part of what a map is.
-use mathlib.Core.Path.{_≡_, refl, sym, ap, _∙_}
-use mathlib.Core.Logic.{_⊎_, inl, inr, _≢_, ⊎-elim}
-use mathlib.Core.List.{List, [], _∷_, List·Memᴰ}
+use mathlib.Core.Path.{_≡_, sym, ap, _∙_}
+use mathlib.Core.Logic.{inl, ⊎-elim}
+use mathlib.Core.List.{List, _∷_, List·Memᴰ}
 use mathlib.Core.List.{List·Memᴰ·head as head, List·Memᴰ·tail as tail, List·Memᴰ·cases-cons as cases-cons, Memᴰ·cast}
-use Prim.Native.Nat.{ℕ, zero, suc, _+_, _-_, _*_, _/_, _%_, _<_, _≤_}
+use Prim.Native.Nat.{ℕ, _+_, _-_, _*_, _/_, _%_, _<_, _≤_}
 use native.Mathlib.Omega.{arith}
-use lib.ListN.{length, getD}
-use Rattle.rings.specs.Ring.{prev, next, along, moved, without, down, Two}
+use lib.ListN.{length}
+use Rattle.rings.specs.Ring.{moved, without, Two}
 use Rattle.rings.proofs.Counts.{by-eq, mem-without}
 use Rattle.rings.proofs.Links.{length-moved, getD-moved, past-moved}
-use Rattle.rings.proofs.Two.{two-swap, one-is-below, other-is-below, mem-not-both, along-ring, two-frame, move-front, move-across, length-without-one}
+use Rattle.rings.proofs.Two.{two-swap, one-is-below, other-is-below, mem-not-both, along-ring, two-frame, move-front, move-across}
 use Rattle.cells.specs.declared.Probe.the-variants as probed
 use Rattle.cells.specs.Cells.{keyAt, cellCount, cellWord, weight, cellAt, setCell, erased}
 use Rattle.cells.specs.Probe.{probe, entered}
@@ -20,7 +20,7 @@ use Rattle.cells.proofs.Same.{probe-same}
 use Rattle.cells.proofs.Probing.{at-found}
 use Rattle.linked_hash_map.specs.declared.map.LinkedHashMap.{LinkedHashMap}
 use Rattle.linked_hash_map.specs.declared.map.Record.{Record}
-use Rattle.linked_hash_map.specs.Words.{Room, Kept, written, takenOut, putIn}
+use Rattle.linked_hash_map.specs.Words.{Room, written, takenOut, putIn}
 use Rattle.linked_hash_map.specs.Map.{IsMap, liveOf, freeOf}
 use Rattle.linked_hash_map.proofs.Frames.{length-written, written-other, written-next, written-prev, record-written, record-written-other}
 

@@ -1,22 +1,19 @@
 -- What the layers above cite: how slots, keys, places and the model go together, with the words out of sight.
-use mathlib.Core.Path.{_≡_, refl, sym, ap, _∙_}
-use mathlib.Core.Bool.{Bool, true, false, cond}
-use mathlib.Core.Logic.{_⊎_, inl, inr}
-use mathlib.Core.List.{List, [], _∷_, map, List·Memᴰ}
+use mathlib.Core.Path.{_≡_, sym, ap, _∙_}
+use mathlib.Core.Bool.{true, false}
+use mathlib.Core.List.{List, List·Memᴰ}
 use Prim.Native.Nat.{ℕ, _+_, _*_, _<_, _≤_}
 use native.Mathlib.Omega.{arith}
-use lib.Dec.{ltb}
 use lib.ListN.{length, getD}
 use borrow.Author.Tests.{lt-ltb, le-ltb}
-use Rattle.rings.specs.Ring.{next}
-use Rattle.rings.proofs.Two.{count-le-one, two-frame, along-ring}
+use Rattle.rings.proofs.Two.{count-le-one, two-frame}
 use Rattle.cells.specs.Cells.{keyAt}
 use Rattle.cells.proofs.Indexing.{frame-words}
 use Rattle.linked_hash_map.specs.declared.map.LinkedHashMap.{LinkedHashMap}
 use Rattle.linked_hash_map.specs.declared.map.Record.{Record}
 use Rattle.linked_hash_map.specs.declared.map.Slot.the-variants as slot
 use Rattle.linked_hash_map.specs.declared.map.Taken.the-variants as taken
-use Rattle.linked_hash_map.specs.Words.{wordsFor, Room, recordAt}
+use Rattle.linked_hash_map.specs.Words.{wordsFor, recordAt}
 use Rattle.linked_hash_map.specs.Model.{has, lookup, nth, Distinct}
 use Rattle.linked_hash_map.specs.Map.{IsMap, liveOf, freeOf, modelOf, slotIn, slotOf, slotAt}
 use Rattle.linked_hash_map.proofs.Records.{Search, found, missing, search-key, records, records-same, records-distinct, record-at, mem-at}

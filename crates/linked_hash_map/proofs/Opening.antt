@@ -1,21 +1,19 @@
 -- `open` and `clear`: the empty map, whatever the words held.
 use mathlib.Core.Path.{_≡_, refl, sym, ap, _∙_}
-use mathlib.Core.Bool.{Bool, true, false, true≢false, _&&_}
-use mathlib.Core.List.{List, [], _∷_, map}
-use Prim.Native.Nat.{ℕ, _+_, _*_, _<_, _≤_}
+use mathlib.Core.Bool.{true, false, true≢false}
+use mathlib.Core.List.{List, [], map}
+use Prim.Native.Nat.{ℕ}
 use native.Mathlib.Omega.{arith}
 use lib.ListN.{length}
-use Rattle.rings.specs.Ring.{down}
 use Rattle.linked_hash_map.specs.declared.map.LinkedHashMap.{LinkedHashMap}
-use Rattle.linked_hash_map.specs.Words.{fit, Room, recordAt, emptied}
+use Rattle.linked_hash_map.specs.Words.{fit, recordAt, emptied}
 use Rattle.linked_hash_map.specs.Numbers.{emptyMap}
-use Rattle.linked_hash_map.specs.Map.{IsMap, liveOf, modelOf}
+use Rattle.linked_hash_map.specs.Map.{IsMap, modelOf}
 use Rattle.linked_hash_map.specs.Calls.{none, Opening, Clearing}
 use Rattle.linked_hash_map.proofs.Limits.{is-room}
 use Rattle.linked_hash_map.proofs.Laid.{to-map, live-is}
 use Rattle.linked_hash_map.proofs.Refill.{laid-emptied}
 use Rattle.linked_hash_map.proofs.Keeping.{kept-same, kept-emptied}
-use Rattle.linked_hash_map.proofs.Finding.{unfit}
 
 module _ (ws : List ℕ) (n : ℕ) (f : fit n (length ws) ≡ true) where
   empty-is-map : IsMap (emptied ws n) (emptyMap n)

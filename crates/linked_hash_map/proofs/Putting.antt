@@ -1,14 +1,14 @@
 -- `put` and `remove`: a record comes to the front of the model, or leaves it.
 use mathlib.Core.Path.{_≡_, refl, sym, ap, _∙_}
-use mathlib.Core.Bool.{Bool, true, false, true≢false, cond, _||_}
-use mathlib.Core.Logic.{inl, inr}
+use mathlib.Core.Bool.{Bool, true, false, true≢false, cond}
+use mathlib.Core.Logic.{inl}
 use mathlib.Core.List.{List, [], _∷_, map, List·Memᴰ}
-use mathlib.Core.List.{List·Memᴰ·head as head, List·Memᴰ·tail as tail, Memᴰ·cast}
-use Prim.Native.Nat.{ℕ, zero, suc, _+_, _-_, _*_, _<_, _≤_}
+use mathlib.Core.List.{List·Memᴰ·head as head, Memᴰ·cast}
+use Prim.Native.Nat.{ℕ, _+_, _-_, _<_, _≤_}
 use native.Mathlib.Omega.{arith}
 use lib.Dec.{ltb}
 use lib.ListN.{length, getD, length-map}
-use borrow.Author.Tests.{lt-ltb, le-ltb, ltb-true, ltb-false}
+use borrow.Author.Tests.{lt-ltb, le-ltb}
 use Rattle.rings.specs.Ring as ring
 use Rattle.rings.proofs.Counts.{by-lt, mem-without}
 use Rattle.rings.proofs.Two.{two-swap, other-is-below, mem-not-both, next-sentinel, length-without-one}
@@ -33,7 +33,7 @@ use Rattle.linked_hash_map.proofs.Frames.{record-below, record-moved, r
 use Rattle.linked_hash_map.proofs.Laid.{Laid, of-map, to-map, live-is, live-below, laid-front, laid-written, laid-taken, laid-put}
 use Rattle.linked_hash_map.proofs.Refill.{laid-refilled}
 use Rattle.linked_hash_map.proofs.Keeping.{kept-same, kept-then, kept-replaced, kept-taken, kept-put, kept-refilled, refilled-outside}
-use Rattle.linked_hash_map.proofs.Probed.{Hit, Miss, hit, miss, free-not-at, live-length}
+use Rattle.linked_hash_map.proofs.Probed.{hit, miss, free-not-at, live-length}
 use Rattle.linked_hash_map.proofs.Finding.{unfit}
 
 -- the model has as many records as the map says

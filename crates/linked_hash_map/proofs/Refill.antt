@@ -1,19 +1,19 @@
 -- The map emptied, and the cells cleared and the live records entered anew by a walk along the ring: entering
 -- a record changes no link, so the walk meets the ring's records, and they are indexed again.
-use mathlib.Core.Path.{_≡_, refl, sym, ap, _∙_}
-use mathlib.Core.Logic.{inl, inr}
+use mathlib.Core.Path.{_≡_, refl, ap, _∙_}
+use mathlib.Core.Logic.{inl}
 use mathlib.Core.List.{List, [], _∷_, List·Memᴰ}
 use mathlib.Core.List.{List·Memᴰ·head as head, List·Memᴰ·tail as tail}
 use Prim.Native.Nat.{ℕ, zero, suc, _+_, _*_, _<_, _≤_}
 use native.Mathlib.Omega.{arith}
 use lib.ListN.{length, getD}
 use borrow.Author.Tests.{lt-ltb}
-use Rattle.rings.specs.Ring.{prev, next, along, joined, attached, count, down, Two}
+use Rattle.rings.specs.Ring.{next, along, joined, attached, count, down, Two}
 use Rattle.rings.proofs.Counts.{bit-eq, count-of-mem}
 use Rattle.rings.proofs.Fill.{Filled, fill-start, fill-more, fill-done}
 use Rattle.rings.proofs.Two.{along-ring, count-le-one, one-is-below, two-frame}
 use Rattle.rings.proofs.Links.{length-attached, length-joined}
-use Rattle.cells.specs.Cells.{keyAt, cellsFrom, cellWords, zeroed}
+use Rattle.cells.specs.Cells.{cellsFrom, cellWords, zeroed}
 use Rattle.cells.specs.Probe.{entered, enteredAll}
 use Rattle.cells.proofs.Lists.{Distinct}
 use Rattle.cells.proofs.Clearing.{zero-length}

@@ -1,18 +1,16 @@
 -- `first`, `last`, `next` and `previous`: a link leads to the neighbour in the order, or to the ring's own node at its end.
 use mathlib.Core.Path.{_≡_, refl, sym, ap, _∙_}
-use mathlib.Core.Bool.{Bool, true, false, true≢false, cond}
+use mathlib.Core.Bool.{true, false, true≢false}
 use mathlib.Core.List.{List, [], _∷_}
-use Prim.Native.Nat.{ℕ, zero, suc, _+_, _-_, _*_, _<_, _≤_}
+use Prim.Native.Nat.{ℕ, zero, suc, _+_, _-_, _<_, _≤_}
 use native.Mathlib.Nat.{not-suc-le-zero, le-of-suc-le-suc}
 use native.Mathlib.Omega.{arith}
-use lib.Dec.{ltb}
 use lib.ListN.{length, getD, List·getD-eq-default}
 use borrow.Author.Tests.{lt-ltb, le-ltb}
 use Rattle.rings.specs.Ring.{prev, next}
 use Rattle.rings.proofs.Counts.{by-lt}
 use Rattle.rings.proofs.Two.{next-sentinel, next-at, prev-first, prev-at, prev-sentinel}
 use Rattle.linked_hash_map.specs.declared.map.LinkedHashMap.{LinkedHashMap}
-use Rattle.linked_hash_map.specs.declared.map.Slot.{Slot}
 use Rattle.linked_hash_map.specs.declared.map.Slot.the-variants as slot
 use Rattle.linked_hash_map.specs.Words.{fit}
 use Rattle.linked_hash_map.specs.Numbers.{slotFrom}

@@ -2,7 +2,7 @@
 use mathlib.Core.Path.{_≡_}
 use mathlib.Core.Bool.{Bool, true, false}
 use mathlib.Core.List.{List, []}
-use Prim.Native.Nat.{ℕ, _+_}
+use Prim.Native.Nat.{ℕ, _+_, _≤_}
 use lib.ListN.{length}
 use Rattle.linked_hash_map.specs.declared.map.LinkedHashMap.{LinkedHashMap}
 use Rattle.linked_hash_map.specs.declared.map.Record.{Record}
@@ -14,7 +14,7 @@ use Rattle.linked_hash_map.specs.declared.map.Opened.{Opened}
 use Rattle.linked_hash_map.specs.declared.map.Put.{Put}
 use Rattle.linked_hash_map.specs.declared.map.Removed.{Removed}
 use Rattle.linked_hash_map.specs.Words.{fit, Kept}
-use Rattle.linked_hash_map.specs.Model.{Model, has, lookup, nth, without, toFront, withPayload, placing, put}
+use Rattle.linked_hash_map.specs.Model.{has, lookup, nth, without, toFront, withPayload, placing, put}
 use Rattle.linked_hash_map.specs.Map.{IsMap, modelOf, slotOf, slotAt}
 
 -- the numbers of a refused opening
@@ -53,8 +53,13 @@ pub record Touching (ws : List ℕ) (m : LinkedHashMap) (k : ℕ) (ws′ : List 
   pub front : IsMap ws m → (s : ℕ) → r ≡ slot.At s → slotAt ws′ m 0 ≡ slot.At s
   pub kept : Kept (m .capacity) ws ws′
 
--- `record`: what stands at a slot, by its key or by its place
+-- `record`: what stands at a slot, by its key or by its place; zeros where nothing can stand
+abbrev pub zeros : Record
+zeros = record { key = 0; first = 0; second = 0 }
+
 pub record Reading (ws : List ℕ) (m : LinkedHashMap) (s : ℕ) (r : Record) : Type 0 where
+  pub refused : fit (m .capacity) (length ws) ≡ false → r ≡ zeros
+  pub past : m .capacity ≤ s → r ≡ zeros
   pub keyed : IsMap ws m → (k : ℕ) → slotOf ws m k ≡ slot.At s → lookup k (modelOf ws m) ≡ taken.Record r
   pub placed : IsMap ws m → (i : ℕ) → slotAt ws m i ≡ slot.At s → nth i (modelOf ws m) ≡ taken.Record r
 

@@ -1,6 +1,6 @@
 -- What the calls do to the numbers, and when the cells are entered anew.
 use mathlib.Core.Path.{_≡_}
-use mathlib.Core.Bool.{Bool, cond}
+use mathlib.Core.Bool.{cond}
 use mathlib.Core.List.{List}
 use Prim.Native.Nat.{ℕ, _+_, _-_, _*_, _<_, _≤_}
 use lib.Dec.{ltb}

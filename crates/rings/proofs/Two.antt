@@ -1,7 +1,7 @@
 -- Two rings that hold each node once between them. A node of one ring is none of the other and no sentinel, for its count is
 -- one already; so taking it out and putting it at a front keeps both the edges and the counts.
 use mathlib.Core.Path.{_≡_, refl, sym, _∙_}
-use mathlib.Core.Logic.{_≢_, _⊎_, inl, inr}
+use mathlib.Core.Logic.{_≢_}
 use mathlib.Core.List.{List, [], _∷_, List·Memᴰ}
 use Prim.Native.Nat.{ℕ, suc, _+_, _-_, _*_, _<_, _≤_}
 use native.Mathlib.Omega.{arith}
@@ -10,7 +10,7 @@ use lib.Dec.{ltb}
 use lib.ListN.{length, getD, List·getD-eq-default}
 use Rattle.rings.specs.Ring.{prev, next, detached, attached, moved, Edge, Ring, bit, count, Two, along, without}
 use Rattle.rings.proofs.Links.{length-attached, length-detached}
-use Rattle.rings.proofs.Counts.{by-lt, bit-le, bit-eq, bit-ne, bit-lt, bit-ge, count-of-mem, mem-of-count, length-without, without-none, count-front}
+use Rattle.rings.proofs.Counts.{by-lt, bit-le, bit-eq, bit-ge, count-of-mem, length-without, without-none, count-front}
 use Rattle.rings.proofs.Rings.{edge-at, edges-around, along-linked, linked-frame, ring-detached, ring-attached, ring-attached-other}
 
 pub two-swap : {N : ℕ} {ws : List ℕ} {s : ℕ} {l : List ℕ} {t : ℕ} {m : List ℕ} → Two N ws s l t m → Two N ws t m s l
@@ -46,11 +46,6 @@ module _ {n : ℕ} {ws l m : List ℕ} (w : Two (n + 2) ws n l (n + 1) m) where
   other-is-below h =
       let k = mem-is-node (two-swap w) h in
       omega arith
-
-  pub mem-in-either : (x : ℕ) → x < n → List·Memᴰ x l ⊎ List·Memᴰ x m
-  mem-in-either x h = by-lt 0 (count x l)
-      (λ k. inl (mem-of-count x l k))
-      (λ k. inr (mem-of-count x m (omega (arith, w .all x, bit-lt x (n + 2) (omega arith), bit-ne n x (omega arith), bit-ne (n + 1) x (omega arith)))))
 
 -- ---- the order of a ring
 
@@ -93,9 +88,6 @@ module _ {N : ℕ} {ws : List ℕ} {s : ℕ} {l : List ℕ} {t : ℕ} {m : List 
       all = w .all;
       size = w .size;
     }
-
-    pub along-frame : along ws′ (next ws′ s) (length l) ≡ l
-    along-frame = along-linked N ws′ s l s (two-frame .one)
 
 -- ---- moving a node
 

@@ -1,4 +1,3 @@
-use mathlib.Core.Path.{sym, _∙_}
 use borrow.Author.Needs.{needs}
 use Rattle.linked_hash_map.proofs.Limits.{no-room, room, is-room}
 use Rattle.linked_hash_map.proofs.Opening.{clearing-refused, clearing}

@@ -12,6 +12,6 @@ record-spec =
     (tie.spec
     (λ c κs. search needs)
     (λ c κs. let r = is-room _ _ (sym (c .before .before .has-room .ensures) ∙ c .before .if1 .taken) in omega (arith, r .limit, r .words))
-    (λ c. rw (c .read-record .ensures) (reading _ _ _))
-    (λ c. reading-none _ _ _ _ (λ is. c .if2 .left))
-    (λ c. reading-none _ _ _ _ (λ is. absurd (unfit (sym (c .before .has-room .ensures) ∙ c .if1 .left) is))))
+    (λ c. let i = c .before in let f = i .before in rw (c .read-record .ensures) (reading _ _ _ (sym (f .before .has-room .ensures) ∙ f .if1 .taken) (i .if2 .taken)))
+    (λ c. reading-none _ _ _ (λ is. c .if2 .left))
+    (λ c. reading-none _ _ _ (λ is. absurd (unfit (sym (c .before .has-room .ensures) ∙ c .if1 .left) is))))

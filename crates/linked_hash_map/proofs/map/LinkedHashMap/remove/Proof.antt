@@ -1,5 +1,4 @@
 use mathlib.Core.Path.{sym, _∙_}
-use native.Mathlib.Omega.{arith}
 use borrow.Author.Needs.{needs}
 use Rattle.cells.proofs.Probing.{at-found}
 use Rattle.linked_hash_map.proofs.Limits.{no-room, room, is-room}
