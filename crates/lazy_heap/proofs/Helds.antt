@@ -1,6 +1,6 @@
 -- Lists of held keys: what taking a key out keeps, and which entries are theirs.
 use mathlib.Core.Path.{_≡_, refl, sym, ap, _∙_}
-use mathlib.Core.Bool.{Bool, true, false, true≢false, cond, _||_}
+use mathlib.Core.Bool.{Bool, true, false, true≢false, cond, _&&_, _||_}
 use mathlib.Core.Logic.{⊎-elim, _≢_}
 use mathlib.Core.List.{List, [], _∷_, List·Memᴰ}
 use mathlib.Core.List.{List·Memᴰ·head as head, List·Memᴰ·tail as tail, List·Memᴰ·cases-cons as cases-cons, List·Memᴰ·not-nil as not-nil}
@@ -8,11 +8,13 @@ use Prim.Native.Nat.{ℕ, _<_, _≤_}
 use native.Mathlib.Omega.{arith}
 use lib.Dec.{eqb}
 use lib.ListN.{length}
-use borrow.Author.Tests.{eq-eqb, ne-eqb, eqb-false}
+use borrow.Author.Tests.{eq-eqb, ne-eqb, eqb-true, eqb-false}
+use Rattle.binary_heap.specs.declared.entries.Entry.{Entry}
 use Rattle.linked_hash_map.specs.declared.map.Record.{Record}
+use Rattle.linked_hash_map.specs.declared.map.Taken.{Taken}
 use Rattle.linked_hash_map.specs.declared.map.Taken.the-variants as taken
 use Rattle.linked_hash_map.specs.Model.{has, lookup, without, Distinct}
-use Rattle.lazy_heap.specs.Model.{entryOf, live}
+use Rattle.lazy_heap.specs.Model.{entryOf, matches, live}
 use Rattle.lazy_heap.specs.Valid.{Falling}
 
 -- ---- membership and keys
@@ -115,3 +117,38 @@ lookup-mem (x ∷ held) d r q = ⊎-elim here (λ t. there t (lookup-mem held (d
 pub held-live : (held : List Record) → Distinct held → (r : Record) → List·Memᴰ r held → live held (entryOf r) ≡ true
 unfolding live
 held-live held d r q = rw (lookup-mem held d r q, eq-eqb (r .first) (r .first) refl, eq-eqb (r .second) (r .second) refl)
+
+both : (a b : Bool) → (a && b) ≡ true → (a ≡ true) × (b ≡ true)
+both true b e = (refl, e)
+both false b e = absurd (true≢false (sym e))
+
+pub lookup-found : (k : ℕ) (held : List Record) (r : Record) → lookup k held ≡ taken.Record r → List·Memᴰ r held × (r .key ≡ k)
+unfolding lookup
+lookup-found k [] r e = absurd (let z : _≡_ {A = ℕ} 0 1 = cc in omega arith)
+lookup-found k (x ∷ held) r e = go (eqb (x .key) k) refl e (lookup-found k held r)
+  where
+    go : (b : Bool) → eqb (x .key) k ≡ b → cond b (taken.Record x) (lookup k held) ≡ taken.Record r → (lookup k held ≡ taken.Record r → List·Memᴰ r held × (r .key ≡ k)) → List·Memᴰ r (x ∷ held) × (r .key ≡ k)
+    go true t q ih = let same : x ≡ r = cc in (head (sym same), ap (λ (y : Record). y .key) (sym same) ∙ eqb-true _ _ t)
+    go false t q ih = let o = ih q in (tail (o .0), o .1)
+
+abbrev of : ℕ → ℕ → ℕ → Entry
+of s n k = record { score = s; seq = n; key = k }
+
+same-entry : {s s′ n n′ k k′ : ℕ} → s ≡ s′ → n ≡ n′ → k ≡ k′ → of s n k ≡ of s′ n′ k′
+same-entry p q r = cc
+
+-- and a live entry is a held key's
+pub live-held : (held : List Record) (e : Entry) → live held e ≡ true → (r : Record) × (List·Memᴰ r held × (entryOf r ≡ e))
+unfolding live
+live-held held e l = go (lookup (e .key) held) refl l
+  where
+    go : (t : Taken) → lookup (e .key) held ≡ t → matches t e ≡ true → (r : Record) × (List·Memᴰ r held × (entryOf r ≡ e))
+    go (taken.Record r) q m =
+        let o = lookup-found (e .key) held r q in
+        let b = both (eqb (r .first) (e .score)) (eqb (r .second) (e .seq)) m in
+        let s : r .first ≡ e .score = eqb-true _ _ (b .0) in
+        let n : r .second ≡ e .seq = eqb-true _ _ (b .1) in
+        let k : r .key ≡ e .key = o .1 in
+        (r, (o .0, same-entry s n k))
+    go taken.Nothing q m = absurd (true≢false (sym m))
+    go taken.Refused q m = absurd (true≢false (sym m))

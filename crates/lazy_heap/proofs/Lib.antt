@@ -4,6 +4,9 @@ pub mod Parts
 pub mod Entered
 pub mod Settling
 pub mod Refilling
+pub mod Downward
+pub mod Tallies
+pub mod Checks
 pub mod Stepping
 pub mod Calling
 pub mod Asking

@@ -31,14 +31,14 @@ use Rattle.lazy_heap.specs.Steps.{Entered, Pushing, slotNumber}
 use Rattle.lazy_heap.proofs.Settling.{entered-then, entered-same}
 
 -- the records from a place on
-nth-drop : (i : ℕ) (l : List Record) (r : Record) → nth i l ≡ taken.Record r → drop i l ≡ r ∷ drop (suc i) l
+pub nth-drop : (i : ℕ) (l : List Record) (r : Record) → nth i l ≡ taken.Record r → drop i l ≡ r ∷ drop (suc i) l
 unfolding nth
 nth-drop i [] r q = absurd (let z : _≡_ {A = ℕ} 0 1 = cc in omega arith)
 nth-drop zero (x ∷ l) r q = let same : x ≡ r = cc in ap (λ (y : Record). y ∷ l) same
 nth-drop (suc i) (x ∷ l) r q = nth-drop i l r q
 
 -- a place that has a slot has its number
-at-number : (t : Slot) (s n : ℕ) → t ≡ slot.At s → slotNumber t n ≡ s
+pub at-number : (t : Slot) (s n : ℕ) → t ≡ slot.At s → slotNumber t n ≡ s
 at-number t s n q = rw q
 
 sort-none : sort [] ≡ []

@@ -24,6 +24,7 @@ use Rattle.lazy_heap.specs.Words.{part, Room}
 use Rattle.lazy_heap.specs.Model.{live, staleBefore, fromLive}
 use Rattle.lazy_heap.specs.Heap.{heldOf, entriesOf, Parts}
 use Rattle.lazy_heap.specs.Steps.{Entered, Popping, settledBy, Settled, Discarding}
+use Rattle.lazy_heap.specs.Walks.{LivingAt}
 
 -- ---- a key's slot, and whether an entry is live
 module _ (ws : List ℕ) (m : LinkedHashMap) (k : ℕ) where
@@ -53,6 +54,22 @@ module _ (l : List Record) (e : Entry) where
   pub live-seq : {r : Record} → lookup (e .key) l ≡ taken.Record r → r .first ≡ e .score → live l e ≡ eqb (r .second) (e .seq)
   unfolding live
   live-seq {r} q d = rw (q, eq-eqb (r .first) (e .score) d)
+
+-- ---- the slot of a live entry
+module _ {ws : List ℕ} {m : LinkedHashMap} {e : Entry} where
+  pub living-at : {s : ℕ} → (map.IsMap ws m → (live (map.modelOf ws m) e ≡ true) × (map.slotOf ws m (e .key) ≡ slot.At s)) → LivingAt ws m e (slot.At s)
+  living-at {s} f = record {
+    found = λ is x q. let same : s ≡ x = cc in (f is .0, f is .1 ∙ ap slot.At same);
+    stale = λ is q. absurd (let z : _≡_ {A = ℕ} 0 1 = cc in omega arith);
+    never = λ is q. let z : _≡_ {A = ℕ} 0 1 = cc in omega arith;
+  }
+
+  pub living-none : (map.IsMap ws m → live (map.modelOf ws m) e ≡ false) → LivingAt ws m e slot.Nothing
+  living-none f = record {
+    found = λ is x q. absurd (let z : _≡_ {A = ℕ} 0 1 = cc in omega arith);
+    stale = λ is q. f is;
+    never = λ is q. let z : _≡_ {A = ℕ} 0 1 = cc in omega arith;
+  }
 
 -- ---- the first entry decides
 module _ (l : List Record) where

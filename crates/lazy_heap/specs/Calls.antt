@@ -1,6 +1,6 @@
 -- What each call promises: on any words and numbers, and on a heap.
 use mathlib.Core.Path.{_≡_}
-use mathlib.Core.Bool.{false, cond}
+use mathlib.Core.Bool.{Bool, true, false, cond}
 use mathlib.Core.Logic.{_⊎_}
 use mathlib.Core.List.{List}
 use Prim.Native.Nat.{ℕ}
@@ -84,7 +84,7 @@ RenumberingNow ws h ws′ r = Stepping ws h (limitsIn ws h) renumbered surplus w
 abbrev pub Clearing : List ℕ → LazyMinHeap → List ℕ → Stepped → Type 0
 Clearing ws h ws′ r = Stepping ws h (limitsIn ws h) cleared surplus ws′ r
 
--- `auto_rebuild_factor`, `len` and `heap_len`
+-- `auto_rebuild_factor`, `len`, `heap_len` and `count_at_most`
 pub record Asking (ws : List ℕ) (h : LazyMinHeap) (value : Heap → ℕ) (r : Number) : Type 0 where
   pub outcome : ofNumber r ≡ limitsIn ws h
   pub answer : IsHeap ws h → r ≡ number.Value (value (modelOf ws h))
@@ -130,3 +130,8 @@ pub record Updating (ws : List ℕ) (h : LazyMinHeap) (k s : ℕ) (ws′ : List 
   pub model : IsHeap ws h → isFull k (modelOf ws h) ≡ false → modelOf ws′ (r .heap) ≡ updated k s (modelOf ws h)
   pub discarded : IsHeap ws h → isFull k (modelOf ws h) ≡ false → r .discarded ≡ updateDiscards k s (modelOf ws h)
   pub kept : Kept (h .scores .capacity) ws ws′
+
+-- `check`: yes exactly for a heap
+pub record Checking (ws : List ℕ) (h : LazyMinHeap) (r : Bool) : Type 0 where
+  pub sound : r ≡ true → IsHeap ws h
+  pub complete : IsHeap ws h → r ≡ true

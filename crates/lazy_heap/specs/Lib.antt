@@ -6,3 +6,4 @@ pub mod Answers
 pub mod Steps
 pub mod Calls
 pub mod Samples
+pub mod Walks

@@ -68,6 +68,14 @@ len h = length (h .held)
 abbrev pub heapLen : Heap → ℕ
 heapLen h = length (h .entries)
 
+-- how many keys hold at most a score
+unfoldable pub countAtMost : ℕ → List Record → ℕ
+countAtMost s [] = 0
+countAtMost s (r ∷ held) = cond (leb (r .first) s) 1 0 + countAtMost s held
+
+abbrev pub atMost : ℕ → Heap → ℕ
+atMost s h = countAtMost s (h .held)
+
 -- ---- rebuilding and renumbering
 -- the live entries alone
 abbrev pub liveEntries : List Record → List Entry

@@ -3,9 +3,12 @@ ghost use mathlib.Core.Path.{_≡_};
 ghost use Prim.Native.Nat.{_-_, _≤_};
 ghost use lib.ListN.{length};
 ghost use Rattle.lazy_heap.specs.Words.{limitsOf, limitsWith, Room};
-ghost use Rattle.lazy_heap.specs.Model.{atLeastOne, heldScore, factorOf, len, heapLen};
-ghost use Rattle.lazy_heap.specs.Calls.{Opening, Resetting, Asking, AskingEmpty, Scoring, Removing, PeekingBest, PoppingBest, RebuildingNow, RebuildingMaybe, RenumberingNow, Clearing, Updating};
-ghost use Rattle.lazy_heap.specs.Steps.{bestOf, Adding, Filling, after, slotNumber, replacedScore, Crowding, Living, Pushing, Popping, Peeking, Settled, Discarding, Rebuilding, Numbered, Renumbering, Fitting, Trimming, Holding};
+ghost use Rattle.lazy_heap.specs.Model.{atLeastOne, heldScore, factorOf, len, heapLen, atMost};
+ghost use Rattle.lazy_heap.specs.Calls.{Opening, Resetting, Asking, AskingEmpty, Scoring, Removing, PeekingBest, PoppingBest, RebuildingNow, RebuildingMaybe, RenumberingNow, Clearing, Updating, Checking};
+ghost use Rattle.lazy_heap.specs.Steps.{bestOf, Adding, Filling, after, replacedScore, Crowding, Living, Pushing, Popping, Peeking, Settled, Discarding, Rebuilding, Numbered, Renumbering, Fitting, Trimming, Holding};
+ghost use Rattle.lazy_heap.specs.Walks.{Sound, Agreeing};
+use crate::walks;
+use crate::walks::slot_number;
 use binary_heap::Entry;
 use binary_heap::Top;
 use linked_hash_map::LinkedHashMap;
@@ -125,16 +128,6 @@ fn number_after(seq: u64) -> u64
     ensures { λ r. ⌜ r ≡ after seq ⌝ }
 {
     if seq < u64::MAX { seq + 1 } else { seq }
-}
-
-fn slot_number(slot: Slot, none: usize) -> usize
-    ensures { λ r. ⌜ r ≡ slotNumber slot none ⌝ }
-{
-    match slot {
-        Slot::At(s) => s,
-        Slot::Nothing => none,
-        Slot::Refused => none,
-    }
 }
 
 // Whether there are more entries than factor times the keys held. (No product is beyond 8 × 4,096.)
@@ -297,6 +290,16 @@ impl LazyMinHeap {
         }
     }
 
+    // How many keys hold at most this score.
+    pub fn count_at_most(self, words: &[u64], score: u64) -> Number
+        ensures { λ r. ⌜ Asking (now (words .entry)) self (atMost score) r ⌝ }
+    {
+        match limits(self.scores.capacity, words.len()) {
+            Outcome::Refused(why) => Number::Refused(why),
+            Outcome::Done => Number::Value(walks::count_at_most(words, self.scores, score)),
+        }
+    }
+
     // ---- scores
 
     pub fn score_of(self, words: &[u64], key: u64) -> Score
@@ -455,6 +458,59 @@ impl LazyMinHeap {
         }
     }
 
+    // ---- the check
+
+    // Whether words and numbers form a heap. It refuses nothing.
+    pub fn check(self, words: &[u64]) -> bool
+        ensures { λ r. ⌜ Checking (now (words .entry)) self r ⌝ }
+    {
+        match limits(self.scores.capacity, words.len()) {
+            Outcome::Refused(_) => false,
+            Outcome::Done => {
+                if self.is_sound(words) {
+                    return self.is_valid(words);
+                }
+                false
+            }
+        }
+    }
+
+    // The numbers are within their limits, and the words hold a map of scores and a binary heap of entries.
+    fn is_sound(self, words: &[u64]) -> bool
+        requires { ⌜ Room (length (now words)) (self .scores .capacity) ⌝ }
+        ensures { λ r. ⌜ Sound (now (words .entry)) self r ⌝ }
+    {
+        let scores = self.scores;
+        let n = scores.capacity;
+        if self.factor == 0 {
+            return false;
+        }
+        if 8 < self.factor {
+            return false;
+        }
+        if 8 * n < self.entries {
+            return false;
+        }
+        if !scores.check(words) {
+            return false;
+        }
+        let start = 8 * n + 58;
+        let end = 64 + 32 * n;
+        binary_heap::is_heap(&words[start..end], self.entries)
+    }
+
+    // Scores and entries go together.
+    fn is_valid(self, words: &[u64]) -> bool
+        requires { ⌜ Room (length (now words)) (self .scores .capacity) ⌝ }
+        ensures { λ r. ⌜ Agreeing (now (words .entry)) self r ⌝ }
+    {
+        let mut tally = [0u64; 4096];
+        if !walks::tally_entries(words, self.scores, self.entries, self.seq, &mut tally) {
+            return false;
+        }
+        walks::records_stand(words, self.scores, self.seq, &tally)
+    }
+
     // ---- the entries
 
     fn push(self, words: &mut [u64], entry: Entry) -> LazyMinHeap
@@ -505,15 +561,8 @@ impl LazyMinHeap {
     fn is_live(self, words: &[u64], entry: Entry) -> bool
         ensures { λ r. ⌜ Living (now (words .entry)) self entry r ⌝ }
     {
-        let scores = self.scores;
-        match scores.find(words, entry.key) {
-            Slot::At(s) => {
-                let r = scores.record(words, s);
-                if r.first == entry.score {
-                    return r.second == entry.seq;
-                }
-                false
-            }
+        match walks::live_slot(words, self.scores, entry) {
+            Slot::At(_) => true,
             Slot::Nothing => false,
             Slot::Refused => false,
         }

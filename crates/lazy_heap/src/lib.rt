@@ -9,8 +9,9 @@
 // or all at once when there are too many.
 //
 // An update, and a pop of each entry, takes logarithmic time; the rest is constant but for `rebuild`, `renumber_seqs`,
-// `clear` and opening.
+// `clear`, `count_at_most`, `check` and opening.
 mod heap;
+mod walks;
 
 pub use heap::Best;
 pub use heap::Bested;

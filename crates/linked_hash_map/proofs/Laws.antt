@@ -35,6 +35,19 @@ keyed ws m k = go (search-key ws k (liveOf ws m))
     go (found s q d a b h) = held s (recordAt ws s) a b h
     go (missing none a b h) = absent a b h
 
+-- the key at a key's slot
+slot-found : (ws : List ℕ) (m : LinkedHashMap) (k s : ℕ) → slotOf ws m k ≡ slot.At s → List·Memᴰ s (liveOf ws m) × (keyAt ws s ≡ k)
+unfolding slotOf
+slot-found ws m k s e = go (search-key ws k (liveOf ws m))
+  where
+    go : Search ws k (liveOf ws m) → List·Memᴰ s (liveOf ws m) × (keyAt ws s ≡ k)
+    go (found x q d a b h) = let same : slot.At x ≡ slot.At s = sym a ∙ e in let is : x ≡ s = cc in (rw (sym is) q, ap (keyAt ws) (sym is) ∙ d)
+    go (missing none a b h) = absurd (let no : slot.Nothing ≡ slot.At s = sym a ∙ e in let z : _≡_ {A = ℕ} 0 1 = cc in omega arith)
+
+-- different keys have different slots
+pub slot-key : (ws : List ℕ) (m : LinkedHashMap) (j k s : ℕ) → slotOf ws m j ≡ slot.At s → slotOf ws m k ≡ slot.At s → j ≡ k
+slot-key ws m j k s a b = sym (slot-found ws m j s a .1) ∙ slot-found ws m k s b .1
+
 -- a place has a slot exactly where it is below the length
 pub place-taken : (ws : List ℕ) (m : LinkedHashMap) (i : ℕ) → i < m .len → slotAt ws m i ≡ slot.At (getD (liveOf ws m) i 0)
 unfolding slotAt
@@ -48,6 +61,10 @@ pub place-below : (ws : List ℕ) (m : LinkedHashMap) (i s : ℕ) → slotAt ws 
 place-below ws m i s e = place-slot ws m i s e .0
 
 module _ {ws : List ℕ} {m : LinkedHashMap} (is : IsMap ws m) where
+  -- a key's slot is one of the map's
+  pub slot-below : (k s : ℕ) → slotOf ws m k ≡ slot.At s → s < m .capacity
+  slot-below k s e = live-below (of-map is) (slot-found ws m k s e .0)
+
   -- no two records of the model share a key
   pub map-distinct : Distinct (modelOf ws m)
   unfolding modelOf
