@@ -1,0 +1,310 @@
+-- What the calls come to: the heap's own promise, read on the pairs.
+use mathlib.Core.Path.{_≡_, refl, sym, ap, _∙_}
+use mathlib.Core.Bool.{Bool, true, false, true≢false, cond}
+use mathlib.Core.Logic.{_⊎_, inl, inr, ⊎-elim}
+use mathlib.Core.List.{List, [], _∷_}
+use mathlib.Core.Option.{Option, none, some}
+use Prim.Native.Nat.{ℕ, _-_, _^_, _≤_}
+use native.Mathlib.Omega.{arith}
+use lib.Dec.{eqb}
+use lib.ListN.{length}
+use Rattle.time.specs.declared.tick.Tick.{Tick}
+use Rattle.time.specs.declared.refusal.Refusal.{Refusal}
+use Rattle.time.specs.declared.refusal.Refusal.the-variants.{KeyLimitReached}
+use Rattle.time.specs.declared.refusal.Outcome.{Outcome}
+use Rattle.time.specs.declared.refusal.Outcome.the-variants.{Done, Refused}
+use Rattle.time.specs.Deadline.{isExpiredAt}
+use Rattle.binary_heap.specs.declared.entries.Entry.{Entry}
+use Rattle.linked_hash_map.specs.Model as held
+use Rattle.lazy_heap.specs.declared.heap.LazyMinHeap.{LazyMinHeap}
+use Rattle.lazy_heap.specs.declared.heap.Score.{Score}
+use Rattle.lazy_heap.specs.declared.heap.Score.the-variants as score
+use Rattle.lazy_heap.specs.declared.heap.Best.{Best}
+use Rattle.lazy_heap.specs.declared.heap.Best.the-variants as best
+use Rattle.lazy_heap.specs.declared.heap.Number.{Number}
+use Rattle.lazy_heap.specs.declared.heap.Number.the-variants as number
+use Rattle.lazy_heap.specs.declared.heap.Flag.{Flag}
+use Rattle.lazy_heap.specs.declared.heap.Flag.the-variants as flag
+use Rattle.lazy_heap.specs.declared.heap.Opened as heapOpened
+use Rattle.lazy_heap.specs.declared.heap.Updated.{Updated}
+use Rattle.lazy_heap.specs.declared.heap.Bested.{Bested}
+use Rattle.lazy_heap.specs.declared.heap.Stepped.{Stepped}
+use Rattle.lazy_heap.specs.Words.{limitsOf, limitsWith, Kept}
+use Rattle.lazy_heap.specs.Answers.{ofScore, ofBest, ofNumber, ofFlag}
+use Rattle.lazy_heap.specs.Model.{Heap, len, heapLen, heldScore, fromLive, tooMany, rebuilt, renumbered, beforePush, pushed, maybeRebuilt, opened, updated, removed, peeked, popped, poppedFrom, cleared}
+use Rattle.lazy_heap.specs.Model as lazy
+use Rattle.lazy_heap.specs.Heap.{IsHeap}
+use Rattle.lazy_heap.specs.Calls as heap
+use Rattle.lazy_heap.proofs.Calling.{refused-done, with-refused, with-small}
+use Rattle.lazy_heap.proofs.Laws.{room-limits}
+use Rattle.expiration_index.specs.declared.index.ExpirationIndex.{ExpirationIndex}
+use Rattle.expiration_index.specs.declared.answers.Deadline.{Deadline}
+use Rattle.expiration_index.specs.declared.answers.Deadline.the-variants as deadline
+use Rattle.expiration_index.specs.declared.answers.Due.{Due}
+use Rattle.expiration_index.specs.declared.answers.Due.the-variants as due
+use Rattle.expiration_index.specs.declared.answers.Count.{Count}
+use Rattle.expiration_index.specs.declared.answers.Told.{Told}
+use Rattle.expiration_index.specs.declared.answers.Looked.{Looked}
+use Rattle.expiration_index.specs.Model.{Pair, Pairs, has, without, tell, deadlineOf, set, isFull, setAnswer, next, nextDue, ifExpired, nextExpired, expiredDue, pairIn, less, withoutExpired}
+use Rattle.expiration_index.specs.Answers.{deadlineIn, heldIn, dueIn, countIn, toldIn, ofDeadline, ofDue, ofCount, ofTold}
+use Rattle.expiration_index.specs.Index.{IsIndex, deadlines, heapOf, modelOf}
+use Rattle.expiration_index.specs.Calls.{limit, limitsIn, Opening, Asking, Telling, Length, HeapLength, Emptiness, Containing, DeadlineOf, Call, Clearing, Removing, NextDeadline, takenIf, poppedExpired, PoppingExpired, Setting, Taking}
+use Rattle.expiration_index.proofs.Pairs.{deadline-pairs, held-pairs, deadlines-length, deadlines-opened, deadlines-cleared, deadlines-removed, deadlines-peeked, deadlines-updated, full-deadlines}
+use Rattle.expiration_index.proofs.Heaps.{popped-peeked}
+use Rattle.expiration_index.proofs.Nexts.{best-due, deadlines-popped}
+
+-- ---- an answer refuses where the heap's does
+refuses-deadline : (s : Score) → ofDeadline (deadlineIn s) ≡ ofScore s
+refuses-deadline (score.Value v) = refl
+refuses-deadline score.Nothing = refl
+refuses-deadline (score.Refused why) = refl
+
+refuses-held : (s : Score) → ofTold (heldIn s) ≡ ofScore s
+refuses-held (score.Value v) = refl
+refuses-held score.Nothing = refl
+refuses-held (score.Refused why) = refl
+
+refuses-due : (b : Best) → ofDue (dueIn b) ≡ ofBest b
+refuses-due (best.Pair k s) = refl
+refuses-due best.Nothing = refl
+refuses-due (best.Refused why) = refl
+
+refuses-count : (n : Number) → ofCount (countIn n) ≡ ofNumber n
+refuses-count (number.Value n) = refl
+refuses-count (number.Refused why) = refl
+
+refuses-told : (f : Flag) → ofTold (toldIn f) ≡ ofFlag f
+refuses-told flag.Yes = refl
+refuses-told flag.No = refl
+refuses-told (flag.Refused why) = refl
+
+-- ---- the factor stays
+factor-popped : (m : Heap) → popped m .factor ≡ m .factor
+unfolding popped peeked
+factor-popped m = go (fromLive (m .held) (m .entries))
+  where
+    go : (l : List Entry) → poppedFrom l m .factor ≡ m .factor
+    go [] = refl
+    go (e ∷ l) = refl
+
+factor-updated : (k s : ℕ) (m : Heap) → updated k s m .factor ≡ m .factor
+unfolding updated maybeRebuilt rebuilt pushed beforePush renumbered
+factor-updated k s m = rebuilds (tooMany (m .factor) (pushed k s (beforePush m))) ∙ numbers (eqb (m .next) (2 ^ 64 - 1))
+  where
+    numbers : (b : Bool) → cond b (renumbered m) m .factor ≡ m .factor
+    numbers true = refl
+    numbers false = refl
+
+    rebuilds : (b : Bool) → cond b (rebuilt (pushed k s (beforePush m))) (pushed k s (beforePush m)) .factor ≡ beforePush m .factor
+    rebuilds true = refl
+    rebuilds false = refl
+
+index-after : {ws ws′ : List ℕ} {x x′ : ExpirationIndex} {m : Heap} → IsIndex ws x → IsHeap ws′ (x′ .heap) → heapOf ws′ x′ ≡ m → m .factor ≡ x .heap .factor → IsIndex ws′ x′
+index-after is h e f = record { heap = h; factor = ap (λ (m : Heap). m .factor) e ∙ f ∙ is .factor }
+
+-- ---- opening
+with-two : (d l : ℕ) → limitsWith d l 2 ≡ limitsOf d l
+with-two d l = go (limitsOf d l) refl
+  where
+    go : (o : Outcome) → limitsOf d l ≡ o → limitsWith d l 2 ≡ limitsOf d l
+    go (Refused why) q = sym (q ∙ with-refused d l 2 q)
+    go Done q = sym (q ∙ with-small d l 2 q (omega arith))
+
+factor-opened : (d s : ℕ) → opened d 2 s .factor ≡ 2
+unfolding opened
+factor-opened d s = omega arith
+
+pub opening : {ws ws′ : List ℕ} {d s : ℕ} {r : heapOpened.Opened} → heap.Opening ws d 2 s ws′ r → Opening ws d s ws′ (record { index = record { heap = r .heap }; outcome = r .outcome })
+opening {ws} {ws′} {d} {s} {r} o = record {
+  outcome = o .outcome ∙ with-two d (length ws);
+  refused = λ why q. let n = o .refused why q in (ap (λ (h : LazyMinHeap). record { heap = h }) (n .0), n .1);
+  index = λ q. record { heap = o .heap q; factor = ap (λ (m : Heap). m .factor) (o .model q) ∙ factor-opened d s };
+  model = λ q. ap deadlines (o .model q) ∙ deadlines-opened d 2 s;
+  heap = o .model;
+  kept = o .kept;
+}
+
+-- ---- calls that change nothing
+module _ {ws : List ℕ} {x : ExpirationIndex} where
+  asking : {value : Heap → ℕ} {v : ℕ} {n : Number} {r : Count} → r ≡ countIn n → value (heapOf ws x) ≡ v → heap.Asking ws (x .heap) value n → Asking ws x v r
+  asking {n = n} e q o = record { outcome = ap ofCount e ∙ refuses-count n ∙ o .outcome; answer = λ is. e ∙ ap countIn (o .answer (is .heap)) ∙ ap (λ (i : ℕ). countIn (number.Value i)) q }
+
+  pub length-asked : {n : Number} {r : Count} → r ≡ countIn n → heap.Asking ws (x .heap) len n → Length ws x r
+  length-asked e o = asking e (sym (deadlines-length (heapOf ws x))) o
+
+  pub heap-length-asked : {n : Number} {r : Count} → r ≡ countIn n → heap.Asking ws (x .heap) heapLen n → HeapLength ws x r
+  heap-length-asked e o = asking e refl o
+
+  pub emptiness : {f : Flag} {r : Told} → r ≡ toldIn f → heap.AskingEmpty ws (x .heap) f → Emptiness ws x r
+  emptiness {f} e o = record { outcome = ap ofTold e ∙ refuses-told f ∙ o .outcome; answer = λ is. e ∙ ap toldIn (o .answer (is .heap)) ∙ tells (eqb (len (heapOf ws x)) 0) ∙ ap (λ (n : ℕ). tell (eqb n 0)) (sym (deadlines-length (heapOf ws x))) }
+    where
+      tells : (b : Bool) → toldIn (cond b flag.Yes flag.No) ≡ tell b
+      tells true = refl
+      tells false = refl
+
+  module _ {k : ℕ} {s : Score} (o : heap.Scoring ws (x .heap) k s) where
+    pub containing : {r : Told} → r ≡ heldIn s → Containing ws x k r
+    unfolding deadlines
+    containing e = record { outcome = ap ofTold e ∙ refuses-held s ∙ o .outcome; answer = λ is. e ∙ ap heldIn (o .answer (is .heap)) ∙ held-pairs k (heapOf ws x .held) }
+
+    pub deadline-told : {r : Deadline} → r ≡ deadlineIn s → DeadlineOf ws x k r
+    unfolding deadlines
+    deadline-told e = record { outcome = ap ofDeadline e ∙ refuses-deadline s ∙ o .outcome; answer = λ is. e ∙ ap deadlineIn (o .answer (is .heap)) ∙ deadline-pairs k (heapOf ws x .held) (is .heap .valid .keys) }
+
+-- refusal 4 comes in the place of the answer
+told-full : (b : Bool) (s : Score) → deadlineIn (cond b (score.Refused KeyLimitReached) s) ≡ cond b (deadline.Refused KeyLimitReached) (deadlineIn s)
+told-full true s = refl
+told-full false s = refl
+
+-- ---- calls that change the index
+module _ {ws ws′ : List ℕ} {x : ExpirationIndex} where
+  call : {told told′ : Outcome} {after : Pairs → Pairs} {next : Heap → Heap} {count : Heap → ℕ} {h : LazyMinHeap} {d : ℕ} → heap.Call ws (x .heap) (limitsIn ws x) told next count ws′ h d → told′ ≡ told → (IsIndex ws x → deadlines (next (heapOf ws x)) ≡ after (modelOf ws x)) → next (heapOf ws x) .factor ≡ x .heap .factor → Call ws x told′ after next count ws′ (record { heap = h }) d
+  call {told = told} o same model factor = record {
+    outcome = same ∙ o .outcome;
+    refused = λ why q. let n = o .refused why (sym same ∙ q) in (ap (λ (g : LazyMinHeap). record { heap = g }) (n .0), n .1, n .2);
+    index = λ is. index-after is (o .heap (done is) (is .heap)) (o .model (done is) (is .heap)) factor;
+    model = λ is. ap deadlines (o .model (done is) (is .heap)) ∙ model is;
+    heap = λ is. o .model (done is) (is .heap);
+    discarded = λ is. o .discarded (done is) (is .heap);
+    kept = o .kept;
+  }
+    where
+      done : IsIndex ws x → told ≡ Done
+      done is = o .outcome ∙ room-limits (is .heap .parts .room)
+
+  pub clearing : {r : Stepped} → heap.Clearing ws (x .heap) ws′ r → Clearing ws x ws′ (record { index = record { heap = r .heap }; outcome = r .outcome; discarded = r .discarded })
+  unfolding cleared
+  clearing o = call o refl (λ is. deadlines-cleared (heapOf ws x)) refl
+
+  pub removing : {k : ℕ} {r : Updated} {a : Deadline} → heap.Removing ws (x .heap) k ws′ r → a ≡ deadlineIn (r .answer) → Removing ws x k ws′ (record { index = record { heap = r .heap }; answer = a; discarded = r .discarded })
+  unfolding removed deadlines
+  removing {k} {r} o e = record {
+    call = call (o .call) (ap ofDeadline e ∙ refuses-deadline (r .answer)) (λ is. deadlines-removed k (heapOf ws x)) refl;
+    answer = λ is. e ∙ ap deadlineIn (o .answer (is .heap)) ∙ deadline-pairs k (heapOf ws x .held) (is .heap .valid .keys);
+  }
+
+  pub looking : {r : Bested} {a : Due} → heap.PeekingBest ws (x .heap) ws′ r → a ≡ dueIn (r .answer) → NextDeadline ws x ws′ (record { index = record { heap = r .heap }; answer = a; discarded = r .discarded })
+  unfolding peeked
+  looking {r} o e = record {
+    call = call (o .call) (ap ofDue e ∙ refuses-due (r .answer)) (λ is. deadlines-peeked (heapOf ws x)) refl;
+    answer = λ is. e ∙ ap dueIn (o .answer (is .heap)) ∙ best-due (heapOf ws x) (is .heap .valid);
+  }
+
+  pub setting : {k : ℕ} {t : Tick} {r : Updated} {a : Deadline} → heap.Updating ws (x .heap) k (t .0) ws′ r → a ≡ deadlineIn (r .answer) → Setting ws x k t ws′ (record { index = record { heap = r .heap }; answer = a; discarded = r .discarded })
+  unfolding deadlines
+  setting {k} {t} {r} {a} o e = record {
+    outcome = ⊎-elim (λ q. inl (same ∙ q)) (λ q. inr (q .0, e ∙ ap deadlineIn (q .1))) (o .outcome);
+    refused = refused;
+    answer = λ is. e ∙ ap deadlineIn (o .answer (is .heap)) ∙ told-full (lazy.isFull k (heapOf ws x)) (heldScore (held.lookup k (heapOf ws x .held))) ∙ rw (full-deadlines k (heapOf ws x), sym (deadline-pairs k (heapOf ws x .held) (is .heap .valid .keys)));
+    index = λ is. by-full is (lazy.isFull k (heapOf ws x)) refl;
+    model = λ is new. ap deadlines (o .model (is .heap) (room new)) ∙ deadlines-updated k (t .0) (heapOf ws x);
+    heap = λ is new. o .model (is .heap) (room new);
+    discarded = λ is new. o .discarded (is .heap) (room new);
+    kept = o .kept;
+  }
+    where
+      same : ofDeadline a ≡ ofScore (r .answer)
+      same = ap ofDeadline e ∙ refuses-deadline (r .answer)
+
+      refused : (why : Refusal) → ofDeadline a ≡ Refused why → (record { heap = r .heap } ≡ x) × (r .discarded ≡ 0) × (ws′ ≡ ws)
+      refused why q = let n = o .refused why (sym same ∙ q) in (ap (λ (h : LazyMinHeap). record { heap = h }) (n .0), n .1, n .2)
+
+      room : isFull (limit x) k (modelOf ws x) ≡ false → lazy.isFull k (heapOf ws x) ≡ false
+      room new = sym (full-deadlines k (heapOf ws x)) ∙ new
+
+      full : IsIndex ws x → lazy.isFull k (heapOf ws x) ≡ true → r .answer ≡ score.Refused KeyLimitReached
+      full is q = o .answer (is .heap) ∙ rw q
+
+      by-full : IsIndex ws x → (b : Bool) → lazy.isFull k (heapOf ws x) ≡ b → IsIndex ws′ (record { heap = r .heap })
+      by-full is true q = record { heap = o .heap (is .heap); factor = ap (λ (h : LazyMinHeap). h .factor) (o .refused KeyLimitReached (ap ofScore (full is q)) .0) ∙ is .factor }
+      by-full is false q = index-after is (o .heap (is .heap)) (o .model (is .heap) q) (factor-updated k (t .0) (heapOf ws x))
+
+-- ---- taking the next deadline
+pub taking : {ws ws′ : List ℕ} {x : ExpirationIndex} {d : ℕ} {r : Bested} → limit x ≡ d → heap.PoppingBest ws (x .heap) ws′ r → Taking ws x d ws′ (record { heap = r .heap })
+taking {ws} {ws′} {x} e o = record {
+  heap = λ q is. let t = o .call .outcome ∙ room-limits (is .heap .parts .room) in (o .call .heap t (is .heap), o .call .model t (is .heap));
+  kept = rw e at (o .call .kept);
+}
+
+pub taking-none : {ws : List ℕ} {x : ExpirationIndex} {d : ℕ} → (limit x ≡ d → ⊥) → Taking ws x d ws x
+taking-none other = record { heap = λ q. absurd (other q); kept = record { size = refl; past = λ j h. refl } }
+
+-- the next due, from the answer that tells it
+due-pair : {k : ℕ} {t : Tick} (l : Pairs) → due.Pair k t ≡ nextDue l → next l ≡ some (record { key = k; deadline = t })
+unfolding nextDue
+due-pair {k} {t} l e = go (next l) refl
+  where
+    go : (o : Option Pair) → next l ≡ o → next l ≡ some (record { key = k; deadline = t })
+    go none q = absurd (let w : due.Pair k t ≡ due.Nothing = e ∙ ap pairIn q in let z : _≡_ {A = ℕ} 0 1 = cc in omega arith)
+    go (some p) q =
+        let w : due.Pair k t ≡ due.Pair (p .key) (p .deadline) = e ∙ ap pairIn q in
+        let a : p .key ≡ k = cc in
+        let b : p .deadline ≡ t = cc in
+        q ∙ ap some (λ z. record { key = a z; deadline = b z })
+
+due-none : (l : Pairs) → due.Nothing ≡ nextDue l → next l ≡ none
+unfolding nextDue
+due-none l e = go (next l) refl
+  where
+    go : (o : Option Pair) → next l ≡ o → next l ≡ none
+    go none q = q
+    go (some p) q = absurd (let w : due.Nothing ≡ due.Pair (p .key) (p .deadline) = e ∙ ap pairIn q in let z : _≡_ {A = ℕ} 0 1 = cc in omega arith)
+
+module _ {ws ws₁ : List ℕ} {x : ExpirationIndex} {n : Looked} (o : NextDeadline ws x ws₁ n) where
+  -- nothing is taken: what is looked at stays
+  left : {t : Tick} (told : Due) → ofDue told ≡ ofDue (n .answer) → (IsIndex ws x → nextExpired t (modelOf ws x) ≡ none) → (IsIndex ws x → told ≡ due.Nothing) → PoppingExpired ws x t ws₁ (record { index = n .index; answer = told; discarded = n .discarded })
+  unfolding poppedExpired withoutExpired expiredDue
+  left {t} told same nothing answer = record {
+    call = record {
+      outcome = same ∙ o .call .outcome;
+      refused = λ why q. o .call .refused why (sym same ∙ q);
+      index = o .call .index;
+      model = λ is. o .call .model is ∙ sym (ap (λ (p : Option Pair). less p (modelOf ws x)) (nothing is));
+      heap = λ is. o .call .heap is ∙ sym (ap (λ (p : Option Pair). takenIf p (heapOf ws x)) (nothing is));
+      discarded = o .call .discarded;
+      kept = o .call .kept;
+    };
+    answer = λ is. answer is ∙ sym (ap pairIn (nothing is));
+  }
+
+  pub popping-none : {t : Tick} → n .answer ≡ due.Nothing → PoppingExpired ws x t ws₁ n
+  unfolding nextExpired
+  popping-none {t} e = left (n .answer) refl (λ is. ap (ifExpired t) (due-none (modelOf ws x) (sym e ∙ o .answer is))) (λ is. e)
+
+  pub popping-refused : {t : Tick} {why : Refusal} → n .answer ≡ due.Refused why → PoppingExpired ws x t ws₁ n
+  popping-refused {why = why} e = left (n .answer) refl (λ is. absurd (never is)) (λ is. absurd (never is))
+    where
+      never : IsIndex ws x → ⊥
+      never is = refused-done why (sym (ap ofDue e) ∙ o .call .outcome ∙ room-limits (is .heap .parts .room))
+
+  module _ {k : ℕ} {d : Tick} (e : n .answer ≡ due.Pair k d) where
+    found : IsIndex ws x → next (modelOf ws x) ≡ some (record { key = k; deadline = d })
+    found is = due-pair (modelOf ws x) (sym e ∙ o .answer is)
+
+    pub popping-later : {t : Tick} → isExpiredAt d t ≡ false → PoppingExpired ws x t ws₁ (record { index = n .index; answer = due.Nothing; discarded = n .discarded })
+    unfolding nextExpired
+    popping-later {t} f = left due.Nothing (sym (ap ofDue e)) (λ is. ap (ifExpired t) (found is) ∙ rw f) (λ is. refl)
+
+    pub popping : {t : Tick} {ws′ : List ℕ} {y : ExpirationIndex} → isExpiredAt d t ≡ true → Taking ws₁ (n .index) (limit x) ws′ y → PoppingExpired ws x t ws′ (record { index = y; answer = due.Pair k d; discarded = n .discarded })
+    unfolding poppedExpired withoutExpired expiredDue nextExpired peeked
+    popping {t} {ws′} {y} f take = record {
+      call = record {
+        outcome = sym (ap ofDue e) ∙ o .call .outcome;
+        refused = λ why q. absurd (refused-done why (sym q));
+        index = λ is. index-after is (taken is .0) (taken-heap is) (factor-popped (heapOf ws x));
+        model = λ is. ap deadlines (taken-heap is) ∙ deadlines-popped (heapOf ws x) (is .heap .valid) ∙ rw (found is, f);
+        heap = λ is. taken-heap is ∙ sym (ap (λ (p : Option Pair). takenIf p (heapOf ws x)) (expired is));
+        discarded = o .call .discarded;
+        kept = record { size = take .kept .size ∙ o .call .kept .size; past = λ j b. take .kept .past j b ∙ o .call .kept .past j b };
+      };
+      answer = λ is. sym (ap pairIn (expired is));
+    }
+      where
+        expired : IsIndex ws x → nextExpired t (modelOf ws x) ≡ some (record { key = k; deadline = d })
+        expired is = ap (ifExpired t) (found is) ∙ rw f
+
+        taken : IsIndex ws x → IsHeap ws′ (y .heap) × (heapOf ws′ y ≡ popped (heapOf ws₁ (n .index)))
+        taken is = take .heap (ap (λ (h : Heap). h .limit) (o .call .heap is)) (o .call .index is)
+
+        taken-heap : IsIndex ws x → heapOf ws′ y ≡ popped (heapOf ws x)
+        taken-heap is = taken is .1 ∙ ap popped (o .call .heap is) ∙ popped-peeked (heapOf ws x)

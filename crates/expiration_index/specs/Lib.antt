@@ -1,0 +1,4 @@
+pub mod Model
+pub mod Answers
+pub mod Index
+pub mod Calls
