@@ -4,7 +4,7 @@ use mathlib.Core.Bool.{Bool, true, false, true≢false, cond}
 use mathlib.Core.Logic.{_⊎_, inl, inr, ⊎-elim}
 use mathlib.Core.List.{List, [], _∷_}
 use mathlib.Core.Option.{Option, none, some}
-use Prim.Native.Nat.{ℕ, _-_, _^_, _≤_}
+use Prim.Native.Nat.{ℕ, _-_, _^_, _<_}
 use native.Mathlib.Omega.{arith}
 use lib.Dec.{eqb}
 use lib.ListN.{length}
@@ -36,7 +36,7 @@ use Rattle.lazy_heap.specs.Model as lazy
 use Rattle.lazy_heap.specs.Heap.{IsHeap}
 use Rattle.lazy_heap.specs.Calls as heap
 use Rattle.lazy_heap.proofs.Calling.{refused-done, with-refused, with-small}
-use Rattle.lazy_heap.proofs.Laws.{room-limits}
+use Rattle.lazy_heap.proofs.Laws.{room-limits, popped-peeked}
 use Rattle.expiration_index.specs.declared.index.ExpirationIndex.{ExpirationIndex}
 use Rattle.expiration_index.specs.declared.answers.Deadline.{Deadline}
 use Rattle.expiration_index.specs.declared.answers.Deadline.the-variants as deadline
@@ -50,7 +50,6 @@ use Rattle.expiration_index.specs.Answers.{deadlineIn, heldIn, dueIn, co
 use Rattle.expiration_index.specs.Index.{IsIndex, deadlines, heapOf, modelOf}
 use Rattle.expiration_index.specs.Calls.{limit, limitsIn, Opening, Asking, Telling, Length, HeapLength, Emptiness, Containing, DeadlineOf, Call, Clearing, Removing, NextDeadline, takenIf, poppedExpired, PoppingExpired, Setting, Taking}
 use Rattle.expiration_index.proofs.Pairs.{deadline-pairs, held-pairs, deadlines-length, deadlines-opened, deadlines-cleared, deadlines-removed, deadlines-peeked, deadlines-updated, full-deadlines}
-use Rattle.expiration_index.proofs.Heaps.{popped-peeked}
 use Rattle.expiration_index.proofs.Nexts.{best-due, deadlines-popped}
 
 -- ---- an answer refuses where the heap's does
@@ -190,9 +189,9 @@ module _ {ws ws′ : List ℕ} {x : ExpirationIndex} where
     answer = λ is. e ∙ ap dueIn (o .answer (is .heap)) ∙ best-due (heapOf ws x) (is .heap .valid);
   }
 
-  pub setting : {k : ℕ} {t : Tick} {r : Updated} {a : Deadline} → heap.Updating ws (x .heap) k (t .0) ws′ r → a ≡ deadlineIn (r .answer) → Setting ws x k t ws′ (record { index = record { heap = r .heap }; answer = a; discarded = r .discarded })
+  pub setting : {k : ℕ} {t : Tick} {r : Updated} {a : Deadline} → heap.Updating ws (x .heap) k (t .0) ws′ r → a ≡ deadlineIn (r .answer) → x .heap .seq < 2 ^ 64 → Setting ws x k t ws′ (record { index = record { heap = r .heap }; answer = a; discarded = r .discarded })
   unfolding deadlines
-  setting {k} {t} {r} {a} o e = record {
+  setting {k} {t} {r} {a} o e word = record {
     outcome = ⊎-elim (λ q. inl (same ∙ q)) (λ q. inr (q .0, e ∙ ap deadlineIn (q .1))) (o .outcome);
     refused = refused;
     answer = λ is. e ∙ ap deadlineIn (o .answer (is .heap)) ∙ told-full (lazy.isFull k (heapOf ws x)) (heldScore (held.lookup k (heapOf ws x .held))) ∙ rw (full-deadlines k (heapOf ws x), sym (deadline-pairs k (heapOf ws x .held) (is .heap .valid .keys)));
@@ -200,6 +199,7 @@ module _ {ws ws′ : List ℕ} {x : ExpirationIndex} where
     model = λ is new. ap deadlines (o .model (is .heap) (room new)) ∙ deadlines-updated k (t .0) (heapOf ws x);
     heap = λ is new. o .model (is .heap) (room new);
     discarded = λ is new. o .discarded (is .heap) (room new);
+    word = word;
     kept = o .kept;
   }
     where

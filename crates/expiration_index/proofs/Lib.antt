@@ -1,4 +1,4 @@
 pub mod Pairs
-pub mod Heaps
 pub mod Nexts
 pub mod Calling
+pub mod Laws

@@ -8,23 +8,24 @@ use mathlib.Core.List.{List·Memᴰ·head as head, List·Memᴰ·tail as tail, L
 use mathlib.Core.Option.{Option, none, some}
 use Prim.Native.Nat.{ℕ, _<_, _≤_}
 use native.Mathlib.Omega.{arith}
-use lib.Dec.{ltb}
+use lib.ListN.{length}
 use borrow.Author.Tests.{lt-ltb, le-ltb}
+use Rattle.time.specs.declared.tick.Tick.{Tick}
 use Rattle.binary_heap.specs.declared.entries.Entry.{Entry}
 use Rattle.binary_heap.specs.Order.{le}
 use Rattle.binary_heap.proofs.Laws.{le-same, le-then}
 use Rattle.binary_heap.proofs.Order.{by-score, by-seq}
 use Rattle.rings.proofs.Counts.{by-lt, by-eq}
 use Rattle.linked_hash_map.specs.declared.map.Record.{Record}
-use Rattle.lazy_heap.specs.Model.{Heap, entryOf, bestIn, fromLive, popped, poppedFrom}
+use Rattle.lazy_heap.specs.Model.{Heap, entryOf, bestIn, fromLive, peeked, popped, poppedFrom}
 use Rattle.lazy_heap.specs.Valid.{Falling, Valid}
 use Rattle.lazy_heap.specs.Calls.{bestOfHeap}
 use Rattle.lazy_heap.proofs.Helds.{falling-below}
-use Rattle.expiration_index.specs.Model.{Pair, Pairs, without, sooner, soonest, next, nextDue, pairIn, less}
+use Rattle.lazy_heap.proofs.Laws.{best-is, best-none}
+use Rattle.expiration_index.specs.Model.{Pair, Pairs, without, sooner, soonest, next, nextDue, pairIn, ifExpired, nextExpired, less}
 use Rattle.expiration_index.specs.Answers.{dueIn}
 use Rattle.expiration_index.specs.Index.{pairOf, pairs, deadlines}
 use Rattle.expiration_index.proofs.Pairs.{without-pairs, deadlines-peeked}
-use Rattle.expiration_index.proofs.Heaps.{best-is, best-none}
 
 -- ---- a pair more
 abbrev soonerIn : Option Pair → Pair → Pair
@@ -114,3 +115,12 @@ deadlines-popped m v = go (best-next m v)
     go : Best m → deadlines (popped m) ≡ less (next (deadlines m)) (deadlines m)
     go (empty n q) = rw (n, q) (deadlines-peeked m)
     go (first r es n q) = rw (n, q) (deadlines-at m r es)
+
+-- where one is taken there was a live entry
+pub best-taken : (t : Tick) (m : Heap) → Valid m → {p : Pair} → nextExpired t (deadlines m) ≡ some p → 1 ≤ length (peeked m .entries)
+unfolding nextExpired peeked
+best-taken t m v {p} e = go (best-next m v)
+  where
+    go : Best m → 1 ≤ length (fromLive (m .held) (m .entries))
+    go (empty n q) = absurd (let w : none ≡ some p = ap (ifExpired t) (sym n) ∙ e in let z : _≡_ {A = ℕ} 0 1 = cc in omega arith)
+    go (first r es n q) = rw q (omega arith)

@@ -6,7 +6,7 @@ use mathlib.Core.Bool.{Bool, false}
 use mathlib.Core.Logic.{_⊎_}
 use mathlib.Core.List.{List, []}
 use mathlib.Core.Option.{Option, none, some}
-use Prim.Native.Nat.{ℕ}
+use Prim.Native.Nat.{ℕ, _^_, _<_}
 use lib.Dec.{eqb}
 use lib.ListN.{length}
 use Rattle.time.specs.declared.tick.Tick.{Tick}
@@ -135,6 +135,8 @@ pub record Setting (ws : List ℕ) (x : ExpirationIndex) (k : ℕ) (t : Tick) (w
   pub model : IsIndex ws x → isFull (limit x) k (modelOf ws x) ≡ false → modelOf ws′ (r .index) ≡ set k t (modelOf ws x)
   pub heap : IsIndex ws x → isFull (limit x) k (modelOf ws x) ≡ false → heapOf ws′ (r .index) ≡ updated k (t .0) (heapOf ws x)
   pub discarded : IsIndex ws x → isFull (limit x) k (modelOf ws x) ≡ false → r .discarded ≡ updateDiscards k (t .0) (heapOf ws x)
+  -- the next sequence number is a word, as any number handed in
+  pub word : x .heap .seq < 2 ^ 64
   pub kept : Kept (limit x) ws ws′
 
 -- ---- a step

@@ -1,3 +1,4 @@
+use native.Mathlib.Omega.{arith}
 use borrow.Author.Needs.{needs}
 use Rattle.expiration_index.proofs.Calling.{setting}
 use Rattle.expiration_index.proofs.index.ExpirationIndex.set_deadline.Statement.{statement}
@@ -10,4 +11,4 @@ set-deadline-spec =
     (λ c κs. search needs)
     (λ c κs. search needs)
     (λ c. search needs)
-    (λ c. setting (c .before .before .before .before .update .ensures) (c .deadline-in .ensures)))
+    (λ c. setting (c .before .before .before .before .update .ensures) (c .deadline-in .ensures) (omega arith)))
