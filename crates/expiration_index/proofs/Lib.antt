@@ -2,3 +2,4 @@ pub mod Pairs
 pub mod Nexts
 pub mod Calling
 pub mod Laws
+pub mod Samples

@@ -2,3 +2,4 @@ pub mod Model
 pub mod Answers
 pub mod Index
 pub mod Calls
+pub mod Samples
