@@ -31,7 +31,7 @@ use Rattle.lazy_heap.specs.declared.heap.Bested.{Bested}
 use Rattle.lazy_heap.specs.declared.heap.Stepped.{Stepped}
 use Rattle.lazy_heap.specs.Words.{limitsOf, limitsWith, Kept}
 use Rattle.lazy_heap.specs.Answers.{ofScore, ofBest, ofNumber, ofFlag}
-use Rattle.lazy_heap.specs.Model.{Heap, len, heapLen, heldScore, fromLive, tooMany, rebuilt, renumbered, beforePush, pushed, maybeRebuilt, opened, updated, removed, peeked, popped, poppedFrom, cleared}
+use Rattle.lazy_heap.specs.Model.{Heap, len, heapLen, atMost, heldScore, fromLive, tooMany, rebuilt, renumbered, beforePush, pushed, maybeRebuilt, opened, updated, removed, peeked, popped, poppedFrom, cleared}
 use Rattle.lazy_heap.specs.Model as lazy
 use Rattle.lazy_heap.specs.Heap.{IsHeap}
 use Rattle.lazy_heap.specs.Calls as heap
@@ -48,8 +48,8 @@ use Rattle.expiration_index.specs.declared.answers.Looked.{Looked}
 use Rattle.expiration_index.specs.Model.{Pair, Pairs, has, without, tell, deadlineOf, set, isFull, setAnswer, next, nextDue, ifExpired, nextExpired, expiredDue, pairIn, less, withoutExpired}
 use Rattle.expiration_index.specs.Answers.{deadlineIn, heldIn, dueIn, countIn, toldIn, ofDeadline, ofDue, ofCount, ofTold}
 use Rattle.expiration_index.specs.Index.{IsIndex, deadlines, heapOf, modelOf}
-use Rattle.expiration_index.specs.Calls.{limit, limitsIn, Opening, Asking, Telling, Length, HeapLength, Emptiness, Containing, DeadlineOf, Call, Clearing, Removing, NextDeadline, takenIf, poppedExpired, PoppingExpired, Setting, Taking}
-use Rattle.expiration_index.proofs.Pairs.{deadline-pairs, held-pairs, deadlines-length, deadlines-opened, deadlines-cleared, deadlines-removed, deadlines-peeked, deadlines-updated, full-deadlines}
+use Rattle.expiration_index.specs.Calls.{limit, limitsIn, Opening, Asking, Telling, Length, HeapLength, Emptiness, Containing, ExpiredCount, DeadlineOf, Checking, Call, Clearing, Removing, NextDeadline, takenIf, poppedExpired, PoppingExpired, Setting, Taking}
+use Rattle.expiration_index.proofs.Pairs.{deadline-pairs, held-pairs, expired-deadlines, deadlines-length, deadlines-opened, deadlines-cleared, deadlines-removed, deadlines-peeked, deadlines-updated, full-deadlines}
 use Rattle.expiration_index.proofs.Nexts.{best-due, deadlines-popped}
 
 -- ---- an answer refuses where the heap's does
@@ -133,6 +133,15 @@ module _ {ws : List ℕ} {x : ExpirationIndex} where
 
   pub heap-length-asked : {n : Number} {r : Count} → r ≡ countIn n → heap.Asking ws (x .heap) heapLen n → HeapLength ws x r
   heap-length-asked e o = asking e refl o
+
+  pub expired-asked : (t : Tick) {n : Number} {r : Count} → r ≡ countIn n → heap.Asking ws (x .heap) (atMost (t .0)) n → ExpiredCount ws x t r
+  expired-asked t e o = asking e (expired-deadlines t (heapOf ws x)) o
+
+  pub checking : {b : Bool} → x .heap .factor ≡ 2 → heap.Checking ws (x .heap) b → Checking ws x b
+  checking f o = record { sound = λ q. record { heap = o .sound q; factor = f }; complete = λ is. o .complete (is .heap) }
+
+  pub checking-not : (x .heap .factor ≡ 2 → ⊥) → Checking ws x false
+  checking-not f = record { sound = λ q. absurd (true≢false (sym q)); complete = λ is. absurd (f (is .factor)) }
 
   pub emptiness : {f : Flag} {r : Told} → r ≡ toldIn f → heap.AskingEmpty ws (x .heap) f → Emptiness ws x r
   emptiness {f} e o = record { outcome = ap ofTold e ∙ refuses-told f ∙ o .outcome; answer = λ is. e ∙ ap toldIn (o .answer (is .heap)) ∙ tells (eqb (len (heapOf ws x)) 0) ∙ ap (λ (n : ℕ). tell (eqb n 0)) (sym (deadlines-length (heapOf ws x))) }

@@ -3,18 +3,20 @@ use mathlib.Core.Path.{_≡_, refl, sym, ap, _∙_}
 use mathlib.Core.Bool.{Bool, true, false, true≢false, cond, not, _&&_, _||_}
 use mathlib.Core.List.{List, [], _∷_, _++_, append-nil}
 use mathlib.Core.Option.{Option, none, some}
-use Prim.Native.Nat.{ℕ, _-_, _^_}
+use Prim.Native.Nat.{ℕ, _+_, _-_, _^_}
 use native.Mathlib.Omega.{arith}
 use lib.Dec.{eqb, leb}
 use lib.ListN.{length, length-append}
 use borrow.Author.Tests.{ne-eqb, eqb-true, eqb-false}
+use Rattle.time.specs.declared.tick.Tick.{Tick}
+use Rattle.time.specs.Deadline.{isExpiredAt}
 use Rattle.linked_hash_map.specs.declared.map.Record.{Record}
 use Rattle.linked_hash_map.specs.declared.map.Taken.{Taken}
 use Rattle.linked_hash_map.specs.declared.map.Taken.the-variants as taken
 use Rattle.linked_hash_map.specs.Model as held
-use Rattle.lazy_heap.specs.Model.{Heap, heldScore, tooMany, rebuilt, numbered, renumbered, beforePush, pushed, maybeRebuilt, updated, removed, peeked, cleared, opened}
+use Rattle.lazy_heap.specs.Model.{Heap, countAtMost, atMost, heldScore, tooMany, rebuilt, numbered, renumbered, beforePush, pushed, maybeRebuilt, updated, removed, peeked, cleared, opened}
 use Rattle.lazy_heap.specs.Model as lazy
-use Rattle.expiration_index.specs.Model.{Pair, Pairs, lookup, has, without, tell, deadlineOf, set, isFull, Distinct}
+use Rattle.expiration_index.specs.Model.{Pair, Pairs, lookup, has, without, tell, deadlineOf, set, isFull, expiredCount, Distinct}
 use Rattle.expiration_index.specs.Model as model
 use Rattle.expiration_index.specs.Answers.{tick, deadlineIn, heldIn}
 use Rattle.expiration_index.specs.Index.{pairOf, pairs, deadlines}
@@ -138,6 +140,22 @@ has-lookup k (r ∷ l) = go (eqb (r .key) k) (has-lookup k l)
 
 pub held-pairs : (k : ℕ) (l : held.Model) → heldIn (heldScore (held.lookup k l)) ≡ tell (has k (pairs l))
 held-pairs k l = has-lookup k l ∙ sym (ap tell (has-pairs k l))
+
+-- ---- how many are expired
+module _ (t : Tick) where
+  pub count-append : (l m : Pairs) → expiredCount t (l ++ m) ≡ expiredCount t l + expiredCount t m
+  unfolding expiredCount
+  count-append [] m = omega arith
+  count-append (p ∷ l) m = omega (arith, count-append l m)
+
+  count-pairs : (l : held.Model) → countAtMost (t .0) l ≡ expiredCount t (pairs l)
+  unfolding pairs countAtMost expiredCount isExpiredAt
+  count-pairs [] = refl
+  count-pairs (r ∷ l) = omega (arith, count-pairs l, count-append (pairs l) (pairOf r ∷ []))
+
+  pub expired-deadlines : (m : Heap) → atMost (t .0) m ≡ expiredCount t (deadlines m)
+  unfolding deadlines
+  expired-deadlines m = count-pairs (m .held)
 
 -- ---- the heap's steps
 pub deadlines-length : (m : Heap) → length (deadlines m) ≡ length (m .held)

@@ -2,7 +2,7 @@
 -- on an index, its answer and the model after it, the heap after it and how many entries it discarded; and what it keeps on
 -- any words.
 use mathlib.Core.Path.{_≡_}
-use mathlib.Core.Bool.{Bool, false}
+use mathlib.Core.Bool.{Bool, true, false}
 use mathlib.Core.Logic.{_⊎_}
 use mathlib.Core.List.{List, []}
 use mathlib.Core.Option.{Option, none, some}
@@ -29,7 +29,7 @@ use Rattle.expiration_index.specs.declared.answers.Cleared.{Cleared}
 use Rattle.expiration_index.specs.declared.answers.Changed.{Changed}
 use Rattle.expiration_index.specs.declared.answers.Looked.{Looked}
 use Rattle.expiration_index.specs.Answers.{ofDeadline, ofDue, ofCount, ofTold}
-use Rattle.expiration_index.specs.Model.{Pair, Pairs, has, without, tell, deadlineOf, set, isFull, setAnswer, nextDue, nextExpired, expiredDue, withoutExpired}
+use Rattle.expiration_index.specs.Model.{Pair, Pairs, has, without, tell, deadlineOf, set, isFull, setAnswer, nextDue, nextExpired, expiredDue, withoutExpired, expiredCount}
 use Rattle.expiration_index.specs.Index.{factor, IsIndex, deadlines, heapOf, modelOf}
 
 -- the key limit
@@ -78,10 +78,19 @@ Emptiness ws x r = Telling ws x (eqb (length (modelOf ws x)) 0) r
 abbrev pub Containing : List ℕ → ExpirationIndex → ℕ → Told → Type 0
 Containing ws x k r = Telling ws x (has k (modelOf ws x)) r
 
+-- `expired_count`
+abbrev pub ExpiredCount : List ℕ → ExpirationIndex → Tick → Count → Type 0
+ExpiredCount ws x t r = Asking ws x (expiredCount t (modelOf ws x)) r
+
 -- `deadline_of`
 pub record DeadlineOf (ws : List ℕ) (x : ExpirationIndex) (k : ℕ) (r : Deadline) : Type 0 where
   pub outcome : ofDeadline r ≡ limitsIn ws x
   pub answer : IsIndex ws x → r ≡ deadlineOf k (modelOf ws x)
+
+-- `check`: yes exactly for an index
+pub record Checking (ws : List ℕ) (x : ExpirationIndex) (r : Bool) : Type 0 where
+  pub sound : r ≡ true → IsIndex ws x
+  pub complete : IsIndex ws x → r ≡ true
 
 -- ---- calls that change the index
 -- what they have in common

@@ -1,7 +1,7 @@
 // The index's calls. Each leaves the work, and the refusals, to the heap, and reads its scores as deadlines.
 ghost use mathlib.Core.Path.{_≡_};
 ghost use Rattle.expiration_index.specs.Answers.{deadlineIn, dueIn, countIn, toldIn, heldIn};
-ghost use Rattle.expiration_index.specs.Calls.{Opening, Clearing, Length, HeapLength, Emptiness, DeadlineOf, Containing, Setting, Removing, NextDeadline, PoppingExpired, Taking};
+ghost use Rattle.expiration_index.specs.Calls.{Opening, Clearing, Length, HeapLength, Emptiness, DeadlineOf, Containing, ExpiredCount, Setting, Removing, NextDeadline, PoppingExpired, Taking, Checking};
 use crate::answers::Changed;
 use crate::answers::Cleared;
 use crate::answers::Count;
@@ -208,6 +208,25 @@ impl ExpirationIndex {
             Due::Nothing => next,
             Due::Refused(_) => next,
         }
+    }
+
+    // How many deadlines have come at `tick`.
+    pub fn expired_count(self, words: &[u64], tick: Tick) -> Count
+        ensures { λ r. ⌜ ExpiredCount (now (words .entry)) self tick r ⌝ }
+    {
+        let heap = self.heap;
+        count_in(heap.count_at_most(words, tick.0))
+    }
+
+    // Whether words and numbers form an index. It refuses nothing.
+    pub fn check(self, words: &[u64]) -> bool
+        ensures { λ r. ⌜ Checking (now (words .entry)) self r ⌝ }
+    {
+        let heap = self.heap;
+        if heap.factor == ExpirationIndex::DEFAULT_REBUILD_FACTOR {
+            return heap.check(words);
+        }
+        false
     }
 
     // Takes the next deadline out. On words that are no index the limit may not be the caller's any more: then nothing is

@@ -1,34 +1,29 @@
 -- What the layers above may cite.
 use mathlib.Core.Path.{_≡_, refl, sym, ap, _∙_, subst}
-use mathlib.Core.Bool.{Bool, true, false, true≢false, cond, _&&_}
+use mathlib.Core.Bool.{Bool, true, false, true≢false, cond}
 use mathlib.Core.Logic.{⊎-elim}
 use mathlib.Core.List.{List, [], _∷_, List·Memᴰ}
-use mathlib.Core.List.{List·Memᴰ·head as head, List·Memᴰ·tail as tail, List·Memᴰ·cases-cons as cases-cons, List·Memᴰ·not-nil as not-nil}
+use mathlib.Core.List.{List·Memᴰ·cases-cons as cases-cons, List·Memᴰ·not-nil as not-nil}
 use Prim.Native.Nat.{ℕ, _+_, _-_, _*_, _<_, _≤_}
 use native.Mathlib.Omega.{arith}
 use native.Mathlib.Nat.{mul-le-mul}
-use lib.Dec.{eqb}
 use lib.ListN.{length, getD, drop}
 use lib.Seq.{ext-getD, getD-take, getD-drop}
-use borrow.Author.Tests.{lt-ltb, eqb-true}
+use borrow.Author.Tests.{lt-ltb}
 use Rattle.binary_heap.specs.declared.entries.Entry.{Entry}
 use Rattle.binary_heap.specs.Order.{le, Sorted}
 use Rattle.binary_heap.specs.Heap as array
 use Rattle.binary_heap.proofs.Laws.{le-same, le-both, count-mem}
-use Rattle.binary_heap.proofs.Order.{entry-same}
 use Rattle.rings.proofs.Counts.{by-lt}
 use Rattle.linked_hash_map.specs.declared.map.Record.{Record}
-use Rattle.linked_hash_map.specs.declared.map.Taken.{Taken}
-use Rattle.linked_hash_map.specs.declared.map.Taken.the-variants as taken
-use Rattle.linked_hash_map.specs.Model.{lookup}
 use Rattle.linked_hash_map.proofs.Laws as map
 use Rattle.lazy_heap.specs.declared.heap.LazyMinHeap.{LazyMinHeap}
 use Rattle.lazy_heap.specs.Words.{wordsFor, start, part}
-use Rattle.lazy_heap.specs.Model.{Heap, entryOf, matches, live, fromLive, atLeastOne, tooMany, rebuilt, maybeRebuilt, updated, peeked, popped, poppedFrom}
+use Rattle.lazy_heap.specs.Model.{Heap, entryOf, live, fromLive, atLeastOne, tooMany, rebuilt, maybeRebuilt, updated, peeked, popped, poppedFrom}
 use Rattle.lazy_heap.specs.Valid.{Valid}
 use Rattle.lazy_heap.specs.Heap.{modelOf, IsHeap}
 use Rattle.lazy_heap.proofs.Parts.{part-length}
-use Rattle.lazy_heap.proofs.Helds.{held-live}
+use Rattle.lazy_heap.proofs.Helds.{held-live, live-held}
 use Rattle.lazy_heap.proofs.Valid.{live-length, sorted-from, sorted-cons, first-live}
 use Rattle.lazy_heap.proofs.Stepping.{same-heap}
 -- a heap is within its limits, and its model keeps what every heap's does
@@ -57,34 +52,7 @@ best-least m v e es q x in-heap l =
     first : ((y : Entry) → List·Memᴰ y es → le e y ≡ true) × Sorted es
     first = sorted-cons e es (rw q at (sorted-from (m .held) (m .entries) (v .sorted)))
 
--- ---- a live entry is a held key's
-lookup-held : (k : ℕ) (held : List Record) (r : Record) → lookup k held ≡ taken.Record r → List·Memᴰ r held × (r .key ≡ k)
-unfolding lookup
-lookup-held k [] r e = absurd (let z : _≡_ {A = ℕ} 0 1 = cc in omega arith)
-lookup-held k (x ∷ held) r e = go (eqb (x .key) k) refl e (lookup-held k held r)
-  where
-    go : (b : Bool) → eqb (x .key) k ≡ b → cond b (taken.Record x) (lookup k held) ≡ taken.Record r → (lookup k held ≡ taken.Record r → List·Memᴰ r held × (r .key ≡ k)) → List·Memᴰ r (x ∷ held) × (r .key ≡ k)
-    go true t q ih = let s : x ≡ r = cc in (head (sym s), ap (λ (y : Record). y .key) (sym s) ∙ eqb-true (x .key) k t)
-    go false t q ih = let o = ih q in (tail (o .0), o .1)
-
-live-held : (held : List Record) (e : Entry) → live held e ≡ true → (r : Record) × (List·Memᴰ r held × (e ≡ entryOf r))
-unfolding live
-live-held held e l = go (lookup (e .key) held) refl l
-  where
-    both : (a b : Bool) → (a && b) ≡ true → (a ≡ true) × (b ≡ true)
-    both true true q = (refl, refl)
-    both true false q = absurd (true≢false (sym q))
-    both false b q = absurd (true≢false (sym q))
-
-    go : (t : Taken) → lookup (e .key) held ≡ t → matches t e ≡ true → (r : Record) × (List·Memᴰ r held × (e ≡ entryOf r))
-    go (taken.Record r) q w =
-        let o = lookup-held (e .key) held r q in
-        let s = both (eqb (r .first) (e .score)) (eqb (r .second) (e .seq)) w in
-        (r, (o .0, entry-same (sym (eqb-true (r .first) (e .score) (s .0))) (sym (eqb-true (r .second) (e .seq) (s .1))) (sym (o .1))))
-    go taken.Nothing q w = absurd (true≢false (sym w))
-    go taken.Refused q w = absurd (true≢false (sym w))
-
--- the held key whose entry is the least is the best
+-- ---- the held key whose entry is the least is the best
 pub best-is : (m : Heap) → Valid m → (r : Record) → List·Memᴰ r (m .held) → ((q : Record) → List·Memᴰ q (m .held) → le (entryOf r) (entryOf q) ≡ true) → (es : List Entry) × (fromLive (m .held) (m .entries) ≡ entryOf r ∷ es)
 best-is m v r in-held least = go (fromLive (m .held) (m .entries)) refl
   where
@@ -98,7 +66,7 @@ best-is m v r in-held least = go (fromLive (m .held) (m .entries)) refl
     go [] q = absurd (not-nil (subst (List·Memᴰ (entryOf r)) q (live-stays (m .held) (m .entries) (entryOf r) is-live in-heap)))
     go (e ∷ es) q =
         let o = live-held (m .held) e (first-live (m .held) (m .entries) e es q) in
-        let before : le (entryOf r) e ≡ true = rw (o .1 .1) (least (o .0) (o .1 .0)) in
+        let before : le (entryOf r) e ≡ true = rw (sym (o .1 .1)) (least (o .0) (o .1 .0)) in
         let same : e ≡ entryOf r = le-both e (entryOf r) (best-least m v e es q (entryOf r) in-heap is-live) before in
         (es, q ∙ ap (λ (x : Entry). x ∷ es) same)
 
@@ -110,7 +78,7 @@ best-none m none = go (fromLive (m .held) (m .entries)) refl
     go [] q = q
     go (e ∷ es) q = absurd (not-nil (subst (List·Memᴰ (o .0)) none (o .1 .0)))
       where
-        o : (r : Record) × (List·Memᴰ r (m .held) × (e ≡ entryOf r))
+        o : (r : Record) × (List·Memᴰ r (m .held) × (entryOf r ≡ e))
         o = live-held (m .held) e (first-live (m .held) (m .entries) e es q)
 
 -- ---- a pop after a peek is a pop
