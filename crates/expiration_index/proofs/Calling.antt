@@ -29,7 +29,7 @@ use Rattle.lazy_heap.specs.declared.heap.Opened as heapOpened
 use Rattle.lazy_heap.specs.declared.heap.Updated.{Updated}
 use Rattle.lazy_heap.specs.declared.heap.Bested.{Bested}
 use Rattle.lazy_heap.specs.declared.heap.Stepped.{Stepped}
-use Rattle.lazy_heap.specs.Words.{limitsOf, limitsWith, Kept}
+use Rattle.lazy_heap.specs.Words.{limitsOf, limitsWith}
 use Rattle.lazy_heap.specs.Answers.{ofScore, ofBest, ofNumber, ofFlag}
 use Rattle.lazy_heap.specs.Model.{Heap, len, heapLen, atMost, heldScore, fromLive, tooMany, rebuilt, renumbered, beforePush, pushed, maybeRebuilt, opened, updated, removed, peeked, popped, poppedFrom, cleared}
 use Rattle.lazy_heap.specs.Model as lazy
@@ -45,10 +45,10 @@ use Rattle.expiration_index.specs.declared.answers.Due.the-variants as d
 use Rattle.expiration_index.specs.declared.answers.Count.{Count}
 use Rattle.expiration_index.specs.declared.answers.Told.{Told}
 use Rattle.expiration_index.specs.declared.answers.Looked.{Looked}
-use Rattle.expiration_index.specs.Model.{Pair, Pairs, has, without, tell, deadlineOf, set, isFull, setAnswer, next, nextDue, ifExpired, nextExpired, expiredDue, pairIn, less, withoutExpired}
+use Rattle.expiration_index.specs.Model.{Pair, Pairs, tell, isFull, next, nextDue, ifExpired, nextExpired, expiredDue, pairIn, less, withoutExpired}
 use Rattle.expiration_index.specs.Answers.{deadlineIn, heldIn, dueIn, countIn, toldIn, ofDeadline, ofDue, ofCount, ofTold}
 use Rattle.expiration_index.specs.Index.{IsIndex, deadlines, heapOf, modelOf}
-use Rattle.expiration_index.specs.Calls.{limit, limitsIn, Opening, Asking, Telling, Length, HeapLength, Emptiness, Containing, ExpiredCount, DeadlineOf, Checking, Call, Clearing, Removing, NextDeadline, takenIf, poppedExpired, PoppingExpired, Setting, Taking}
+use Rattle.expiration_index.specs.Calls.{limit, limitsIn, Opening, Asking, Length, HeapLength, Emptiness, Containing, ExpiredCount, DeadlineOf, Checking, Call, Clearing, Removing, NextDeadline, takenIf, poppedExpired, PoppingExpired, Setting, Taking}
 use Rattle.expiration_index.proofs.Pairs.{deadline-pairs, held-pairs, expired-deadlines, deadlines-length, deadlines-opened, deadlines-cleared, deadlines-removed, deadlines-peeked, deadlines-updated, full-deadlines}
 use Rattle.expiration_index.proofs.Nexts.{best-due, deadlines-popped}
 

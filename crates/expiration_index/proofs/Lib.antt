@@ -1,4 +1,5 @@
 pub mod Pairs
+pub mod Expired
 pub mod Nexts
 pub mod Calling
 pub mod Laws

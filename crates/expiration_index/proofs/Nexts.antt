@@ -1,7 +1,7 @@
 -- The heap's best is the next due: numbers fall from the latest set to the earliest, so that the least by deadline and then
 -- by number is the least by deadline, and of equal ones the earliest set.
 use mathlib.Core.Path.{_≡_, refl, sym, ap, _∙_}
-use mathlib.Core.Bool.{Bool, true, false, cond}
+use mathlib.Core.Bool.{true}
 use mathlib.Core.Logic.{⊎-elim}
 use mathlib.Core.List.{List, [], _∷_, _++_, List·Memᴰ}
 use mathlib.Core.List.{List·Memᴰ·head as head, List·Memᴰ·tail as tail, List·Memᴰ·cases-cons as cases-cons, List·Memᴰ·not-nil as not-nil}
@@ -17,7 +17,7 @@ use Rattle.binary_heap.proofs.Laws.{le-same, le-then}
 use Rattle.binary_heap.proofs.Order.{by-score, by-seq}
 use Rattle.rings.proofs.Counts.{by-lt, by-eq}
 use Rattle.linked_hash_map.specs.declared.map.Record.{Record}
-use Rattle.lazy_heap.specs.Model.{Heap, entryOf, bestIn, fromLive, peeked, popped, poppedFrom}
+use Rattle.lazy_heap.specs.Model.{Heap, entryOf, fromLive, peeked, popped, poppedFrom}
 use Rattle.lazy_heap.specs.Valid.{Falling, Valid}
 use Rattle.lazy_heap.specs.Calls.{bestOfHeap}
 use Rattle.lazy_heap.proofs.Helds.{falling-below}

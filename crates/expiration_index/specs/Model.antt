@@ -109,6 +109,11 @@ unfoldable pub expiredCount : Tick → Pairs → ℕ
 expiredCount t [] = 0
 expiredCount t (p ∷ l) = cond (isExpiredAt (p .deadline) t) 1 0 + expiredCount t l
 
+-- the pairs that are not: what is left when all that are expired have been taken
+unfoldable pub unexpired : Tick → Pairs → Pairs
+unexpired t [] = []
+unexpired t (p ∷ l) = cond (isExpiredAt (p .deadline) t) (unexpired t l) (p ∷ unexpired t l)
+
 -- no two pairs have one key
 abbrev pub Distinct : Pairs → Type 0
 Distinct [] = Unit {0}
