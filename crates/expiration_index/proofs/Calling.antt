@@ -77,26 +77,40 @@ refuses-told flag.Yes = refl
 refuses-told flag.No = refl
 refuses-told (flag.Refused why) = refl
 
--- ---- the factor stays
-factor-popped : (m : Heap) → popped m .factor ≡ m .factor
+-- ---- limit and factor stay
+abbrev pub Stays : Heap → Heap → Type 0
+Stays m n = (n .limit ≡ m .limit) × (n .factor ≡ m .factor)
+
+pub stays-popped : (m : Heap) → Stays m (popped m)
 unfolding popped peeked
-factor-popped m = go (fromLive (m .held) (m .entries))
+stays-popped m = go (fromLive (m .held) (m .entries))
   where
-    go : (l : List Entry) → poppedFrom l m .factor ≡ m .factor
-    go [] = refl
-    go (e ∷ l) = refl
+    go : (l : List Entry) → Stays m (poppedFrom l m)
+    go [] = (refl, refl)
+    go (e ∷ l) = (refl, refl)
 
-factor-updated : (k s : ℕ) (m : Heap) → updated k s m .factor ≡ m .factor
-unfolding updated maybeRebuilt rebuilt pushed beforePush renumbered
-factor-updated k s m = rebuilds (tooMany (m .factor) (pushed k s (beforePush m))) ∙ numbers (eqb (m .next) (2 ^ 64 - 1))
+stays-before : (m : Heap) → Stays m (beforePush m)
+unfolding beforePush renumbered
+stays-before m = go (eqb (m .next) (2 ^ 64 - 1))
   where
-    numbers : (b : Bool) → cond b (renumbered m) m .factor ≡ m .factor
-    numbers true = refl
-    numbers false = refl
+    go : (b : Bool) → Stays m (cond b (renumbered m) m)
+    go true = (refl, refl)
+    go false = (refl, refl)
 
-    rebuilds : (b : Bool) → cond b (rebuilt (pushed k s (beforePush m))) (pushed k s (beforePush m)) .factor ≡ beforePush m .factor
-    rebuilds true = refl
-    rebuilds false = refl
+stays-rebuilt : (f : ℕ) (m : Heap) → Stays m (maybeRebuilt f m)
+unfolding maybeRebuilt rebuilt
+stays-rebuilt f m = go (tooMany f m)
+  where
+    go : (b : Bool) → Stays m (cond b (rebuilt m) m)
+    go true = (refl, refl)
+    go false = (refl, refl)
+
+pub stays-updated : (k s : ℕ) (m : Heap) → Stays m (updated k s m)
+unfolding updated pushed
+stays-updated k s m =
+    let r = stays-rebuilt (m .factor) (pushed k s (beforePush m)) in
+    let b = stays-before m in
+    (r .0 ∙ b .0, r .1 ∙ b .1)
 
 index-after : {ws ws′ : List ℕ} {x x′ : ExpirationIndex} {m : Heap} → IsIndex ws x → IsHeap ws′ (x′ .heap) → heapOf ws′ x′ ≡ m → m .factor ≡ x .heap .factor → IsIndex ws′ x′
 index-after is h e f = record { heap = h; factor = ap (λ (m : Heap). m .factor) e ∙ f ∙ is .factor }
@@ -226,7 +240,7 @@ module _ {ws ws′ : List ℕ} {x : ExpirationIndex} where
 
       by-full : IsIndex ws x → (b : Bool) → lazy.isFull k (heapOf ws x) ≡ b → IsIndex ws′ (record { heap = r .heap })
       by-full is true q = record { heap = o .heap (is .heap); factor = ap (λ (h : LazyMinHeap). h .factor) (o .refused KeyLimitReached (ap ofScore (full is q)) .0) ∙ is .factor }
-      by-full is false q = index-after is (o .heap (is .heap)) (o .model (is .heap) q) (factor-updated k (t .0) (heapOf ws x))
+      by-full is false q = index-after is (o .heap (is .heap)) (o .model (is .heap) q) (stays-updated k (t .0) (heapOf ws x) .1)
 
 -- ---- taking the next deadline
 pub taking : {ws ws′ : List ℕ} {x : ExpirationIndex} {d : ℕ} {r : Bested} → limit x ≡ d → heap.PoppingBest ws (x .heap) ws′ r → Taking ws x d ws′ (record { heap = r .heap })
@@ -300,7 +314,7 @@ module _ {ws ws₁ : List ℕ} {x : ExpirationIndex} {n : Looked} (o : NextDeadl
       call = record {
         outcome = sym (ap ofDue e) ∙ o .call .outcome;
         refused = λ why q. absurd (refused-done why (sym q));
-        index = λ is. index-after is (taken is .0) (taken-heap is) (factor-popped (heapOf ws x));
+        index = λ is. index-after is (taken is .0) (taken-heap is) (stays-popped (heapOf ws x) .1);
         model = λ is. ap deadlines (taken-heap is) ∙ deadlines-popped (heapOf ws x) (is .heap .valid) ∙ rw (found is, f);
         heap = λ is. taken-heap is ∙ sym (ap (λ (p : Option Pair). takenIf p (heapOf ws x)) (expired is));
         discarded = o .call .discarded;
