@@ -1,0 +1,5 @@
+pub mod Model
+pub mod Discards
+pub mod Book
+pub mod Calls
+pub mod Steps

@@ -1,0 +1,255 @@
+-- What the private steps promise: which part of the book they change, and how.
+use mathlib.Core.Path.{_≡_}
+use mathlib.Core.Bool.{Bool, true, false, cond, not}
+use mathlib.Core.Option.{Option, none, some}
+use mathlib.Core.List.{List, []}
+use Prim.Native.Nat.{ℕ, _+_, _-_, _^_, _≤_, min}
+use lib.ListN.{length}
+use Rattle.time.specs.declared.tick.Tick.{Tick}
+use Rattle.time.specs.declared.tick.Remaining.{Remaining}
+use Rattle.time.specs.declared.duration.Ticked.{Ticked}
+use Rattle.time.specs.declared.duration.Ticked.the-variants as ticked
+use Rattle.time.specs.declared.refusal.Refusal.{Refusal}
+use Rattle.time.specs.declared.refusal.Refusal.the-variants.{KeyLimitReached}
+use Rattle.time.specs.declared.refusal.Outcome.the-variants.{Done}
+use Rattle.time.specs.Duration.{ticksOf}
+use Rattle.time.specs.Deadline.{isExpiredAt, remainingAt}
+use Rattle.lazy_heap.specs.Model.{opened}
+use Rattle.lazy_heap.specs.Calls.{stale}
+use Rattle.fast_lru.specs.declared.lru.FastLru.{FastLru}
+use Rattle.fast_lru.specs.declared.answers.Found.{Found}
+use Rattle.fast_lru.specs.declared.answers.Found.the-variants as found
+use Rattle.fast_lru.specs.declared.answers.Told.{Told}
+use Rattle.fast_lru.specs.declared.answers.Told.the-variants as told
+use Rattle.fast_lru.specs.declared.answers.Oldest.{Oldest}
+use Rattle.fast_lru.specs.declared.answers.Oldest.the-variants as oldest
+use Rattle.fast_lru.specs.Model.{Items, inserted}
+use Rattle.fast_lru.specs.Model as list
+use Rattle.fast_lru.specs.Lru as lru
+use Rattle.expiration_index.specs.declared.index.ExpirationIndex.{ExpirationIndex}
+use Rattle.expiration_index.specs.declared.answers.Deadline.{Deadline}
+use Rattle.expiration_index.specs.declared.answers.Deadline.the-variants as deadline
+use Rattle.expiration_index.specs.declared.answers.Due.{Due}
+use Rattle.expiration_index.specs.declared.answers.Due.the-variants as due
+use Rattle.expiration_index.specs.Model.{Pair, Pairs, isFull, expiredCount, deadlineOf, nextExpired}
+use Rattle.expiration_index.specs.Model as pairs
+use Rattle.expiration_index.specs.Index as index
+use Rattle.expiration_index.specs.Calls.{poppedExpired}
+use Rattle.expiring.specs.declared.answers.Answer.{Answer}
+use Rattle.expiring.specs.declared.answers.Answer.the-variants as answers
+use Rattle.expiring.specs.declared.answers.Reply.{Reply}
+use Rattle.expiring.specs.declared.expiring.Expiring.{Expiring}
+use Rattle.expiring.specs.declared.expiring.Opened as expiring
+use Rattle.expiring.specs.declared.expiring.Dated.{Dated}
+use Rattle.expiring.specs.declared.expiring.Popped.{Popped}
+use Rattle.expiring.specs.declared.expiring.Valued.{Valued}
+use Rattle.expiring.specs.declared.expiring.Defaulted.{Defaulted}
+use Rattle.expiring.specs.declared.expiring.Defaulted.the-variants as defaulted
+use Rattle.expiring.specs.declared.expiring.DefaultTtl.{DefaultTtl}
+use Rattle.expiring.specs.declared.expiring.DefaultTtl.the-variants as default
+use Rattle.expiring.specs.declared.expiring.DefaultDuration.{DefaultDuration}
+use Rattle.expiring.specs.declared.expiring.DefaultDuration.the-variants as asked
+use Rattle.expiring.specs.Model.{Change, keep, set, drop, dropExpired, dropAll, look, fresh, pairsAfter, hasCome, livesAt, valueIn}
+use Rattle.expiring.specs.Discards.{discards, heapAfter}
+use Rattle.expiring.specs.Book.{capacityOf, limitOf, rest, IsBook, heapOf, modelOf, Kept}
+
+-- ---- the answers of the layers below, where they refuse nothing
+abbrev pub ofFound : Found → Answer
+ofFound (found.Value v) = answers.Value v
+ofFound found.Nothing = answers.Nothing
+ofFound (found.Refused why) = answers.Nothing
+
+abbrev pub ofTold : Told → Answer
+ofTold told.Yes = answers.Yes
+ofTold told.No = answers.No
+ofTold (told.Refused why) = answers.No
+
+abbrev pub ofOldest : Oldest → Answer
+ofOldest (oldest.Item k v) = answers.Item k v
+ofOldest oldest.Nothing = answers.Nothing
+ofOldest (oldest.Refused why) = answers.Nothing
+
+abbrev pub ofDue : Due → Answer
+ofDue (due.Pair k d) = answers.Due k d
+ofDue due.Nothing = answers.Nothing
+ofDue (due.Refused why) = answers.Nothing
+
+abbrev pub statusOf : Deadline → Tick → Answer
+statusOf (deadline.At d) t = livesAt d (remainingAt d t)
+statusOf deadline.Nothing t = answers.Immortal
+statusOf (deadline.Refused why) t = answers.Immortal
+
+abbrev pub comeBy : Deadline → Tick → Bool
+comeBy (deadline.At d) t = isExpiredAt d t
+comeBy deadline.Nothing t = false
+comeBy (deadline.Refused why) t = false
+
+abbrev pub isAccepted : Deadline → Bool
+isAccepted (deadline.At d) = true
+isAccepted deadline.Nothing = true
+isAccepted (deadline.Refused why) = false
+
+-- ---- an opening
+abbrev byTicks : Ticked → Defaulted
+byTicks (ticked.Ticks l) = defaulted.To (default.Of l)
+byTicks (ticked.Refused why) = defaulted.Refused why
+
+abbrev pub defaultedBy : DefaultDuration → Defaulted
+defaultedBy (asked.Of d) = byTicks (ticksOf d)
+defaultedBy asked.Nothing = defaulted.To default.Nothing
+
+-- ---- the numbers
+-- "expirations (stops at u64::MAX)"
+abbrev pub saturatingSum : ℕ → ℕ → ℕ
+saturatingSum a b = min (a + b) (2 ^ 64 - 1)
+
+abbrev pub withList : Expiring → FastLru → Expiring
+withList b l = record { inner = l; index = b .index; «default_ttl» = b .«default_ttl»; expirations = b .expirations }
+
+abbrev pub withIndex : Expiring → ExpirationIndex → Expiring
+withIndex b x = record { inner = b .inner; index = x; «default_ttl» = b .«default_ttl»; expirations = b .expirations }
+
+abbrev pub withExpired : Expiring → ℕ → Expiring
+withExpired b n = record { inner = b .inner; index = b .index; «default_ttl» = b .«default_ttl»; expirations = saturatingSum (b .expirations) n }
+
+abbrev pub replying : Expiring → Answer → Reply
+replying b a = record { book = b; answer = a; discarded = 0 }
+
+-- ---- what stands in the words
+abbrev pub storedOf : List ℕ → Expiring → Items
+storedOf ws b = lru.modelOf ws (b .inner)
+
+abbrev pub deadlinesOf : List ℕ → Expiring → Pairs
+deadlinesOf ws b = index.modelOf (rest ws b) (b .index)
+
+pub record DeadlineOf (ws : List ℕ) (b : Expiring) (k : ℕ) (r : Deadline) : Type 0 where
+  pub answer : IsBook ws b → r ≡ deadlineOf k (deadlinesOf ws b)
+
+pub record Expired (ws : List ℕ) (b : Expiring) (t : Tick) (k : ℕ) (r : Bool) : Type 0 where
+  pub answer : IsBook ws b → r ≡ hasCome t (pairs.lookup k (deadlinesOf ws b))
+
+pub record Stored (ws : List ℕ) (b : Expiring) (k : ℕ) (r : Bool) : Type 0 where
+  pub answer : IsBook ws b → r ≡ list.has k (storedOf ws b)
+
+pub record StoredCount (ws : List ℕ) (b : Expiring) (r : ℕ) : Type 0 where
+  pub answer : IsBook ws b → r ≡ length (storedOf ws b)
+
+pub record ExpiredCount (ws : List ℕ) (b : Expiring) (t : Tick) (r : ℕ) : Type 0 where
+  pub answer : IsBook ws b → r ≡ expiredCount t (deadlinesOf ws b)
+
+-- ---- steps
+-- a step that does ch to the deadlines and f to the values, and discards d entries
+pub record Moved (ws : List ℕ) (b : Expiring) (ch : Change) (f : Items → Items) (ws′ : List ℕ) (b′ : Expiring) (d : ℕ) : Type 0 where
+  pub capacity : capacityOf b′ ≡ capacityOf b
+  pub limit : limitOf b′ ≡ limitOf b
+  pub lifetime : b′ .«default_ttl» ≡ b .«default_ttl»
+  pub expirations : b′ .expirations ≡ b .expirations
+  pub book : IsBook ws b → IsBook ws′ b′
+  pub stored : IsBook ws b → storedOf ws′ b′ ≡ f (storedOf ws b)
+  pub deadlines : IsBook ws b → deadlinesOf ws′ b′ ≡ pairsAfter ch (deadlinesOf ws b)
+  pub heap : IsBook ws b → heapOf ws′ b′ ≡ heapAfter ch (heapOf ws b)
+  pub discarded : IsBook ws b → d ≡ discards ch (heapOf ws b)
+  pub kept : Kept (capacityOf b) (limitOf b) ws ws′
+
+abbrev pub same : Items → Items
+same s = s
+
+-- `set_deadline`: as many keys as the limit may hold one
+pub record Dating (ws : List ℕ) (b : Expiring) (k : ℕ) (t : Tick) (ws′ : List ℕ) (r : Dated) : Type 0 where
+  pub answer : IsBook ws b → r .«is_set» ≡ not (isFull (limitOf b) k (deadlinesOf ws b))
+  pub refused : r .«is_set» ≡ false → ws′ ≡ ws
+  pub moved : r .«is_set» ≡ true → Moved ws b (set k t) same ws′ (r .book) (r .discarded)
+
+-- a step on the values, with the value that the key had
+pub record Valuing (ws : List ℕ) (b : Expiring) (ch : Change) (k : ℕ) (f : Items → Items) (ws′ : List ℕ) (r : Valued) : Type 0 where
+  pub moved : Moved ws b ch f ws′ (r .book) 0
+  pub answer : IsBook ws b → r .answer ≡ valueIn (list.lookup k (storedOf ws b))
+  pub accepted : (why : Refusal) → r .answer ≡ answers.Refused why → ⊥
+
+-- `put_value`
+abbrev pub putting : Expiring → ℕ → ℕ → Items → Items
+putting b k v s = inserted (capacityOf b) (record { key = k; value = v }) s
+
+-- ---- calls, but for refusals 1, 2 and 3
+abbrev pub expiredIn : List ℕ → Expiring → Tick → ℕ → Bool
+expiredIn ws b t k = hasCome t (pairs.lookup k (deadlinesOf ws b))
+
+abbrev pub valueOf : List ℕ → Expiring → ℕ → Answer
+valueOf ws b k = valueIn (list.lookup k (storedOf ws b))
+
+abbrev pub unless : Bool → Answer → Answer
+unless expired a = cond expired answers.Nothing a
+
+abbrev pub beyond : Change → List ℕ → Expiring → Bool
+beyond (set k d) ws b = isFull (limitOf b) k (deadlinesOf ws b)
+beyond keep ws b = false
+beyond (drop k) ws b = false
+beyond (dropExpired t) ws b = false
+beyond dropAll ws b = false
+beyond look ws b = false
+
+-- a reply after which the values are s and n more keys have expired, with the answer a, by doing ch to the deadlines,
+-- unless this would set one beyond the limit
+pub record Acting (ws : List ℕ) (b : Expiring) (ch : Change) (s : Items) (n : ℕ) (a : Answer) (ws′ : List ℕ) (r : Reply) : Type 0 where
+  pub only : (why : Refusal) → r .answer ≡ answers.Refused why → why ≡ KeyLimitReached
+  pub refused : (why : Refusal) → r .answer ≡ answers.Refused why → (r .book ≡ b) × (r .discarded ≡ 0) × (ws′ ≡ ws)
+  pub full : IsBook ws b → beyond ch ws b ≡ true → r .answer ≡ answers.Refused KeyLimitReached
+  pub capacity : capacityOf (r .book) ≡ capacityOf b
+  pub limit : limitOf (r .book) ≡ limitOf b
+  pub lifetime : r .book .«default_ttl» ≡ b .«default_ttl»
+  pub book : IsBook ws b → IsBook ws′ (r .book)
+  pub answer : IsBook ws b → beyond ch ws b ≡ false → r .answer ≡ a
+  pub expirations : IsBook ws b → beyond ch ws b ≡ false → r .book .expirations ≡ saturatingSum (b .expirations) n
+  pub stored : IsBook ws b → beyond ch ws b ≡ false → storedOf ws′ (r .book) ≡ s
+  pub deadlines : IsBook ws b → beyond ch ws b ≡ false → deadlinesOf ws′ (r .book) ≡ pairsAfter ch (deadlinesOf ws b)
+  pub heap : IsBook ws b → beyond ch ws b ≡ false → heapOf ws′ (r .book) ≡ heapAfter ch (heapOf ws b)
+  pub discarded : IsBook ws b → beyond ch ws b ≡ false → r .discarded ≡ discards ch (heapOf ws b)
+  pub kept : Kept (capacityOf b) (limitOf b) ws ws′
+
+-- `put_within`: the value goes in; the old one is the answer, unless it was expired
+pub record Placing (ws : List ℕ) (b : Expiring) (k v : ℕ) (expired : Bool) (d : ℕ) (ws′ : List ℕ) (r : Reply) : Type 0 where
+  pub acted : Acting ws b keep (putting b k v (storedOf ws b)) (cond expired 1 0) (unless expired (valueOf ws b k)) ws′ (replying (r .book) (r .answer))
+  pub accepted : (why : Refusal) → r .answer ≡ answers.Refused why → ⊥
+  pub discarded : r .discarded ≡ d
+
+-- `insert_until` and `insert_forever`
+abbrev pub Inserting : List ℕ → Expiring → Tick → ℕ → ℕ → Change → List ℕ → Reply → Type 0
+Inserting ws b t k v ch ws′ r = Acting ws b ch (putting b k v (storedOf ws b)) (cond (expiredIn ws b t k) 1 0) (unless (expiredIn ws b t k) (valueOf ws b k)) ws′ r
+
+-- `remove_within`
+abbrev pub Removing : List ℕ → Expiring → Tick → ℕ → List ℕ → Reply → Type 0
+Removing ws b t k ws′ r = Acting ws b (drop k) (list.without k (storedOf ws b)) (cond (expiredIn ws b t k) 1 0) (unless (expiredIn ws b t k) (valueOf ws b k)) ws′ r
+
+abbrev pub isSome : Option Pair → Bool
+isSome none = false
+isSome (some p) = true
+
+abbrev pub lessValue : Option Pair → Items → Items
+lessValue none s = s
+lessValue (some p) s = list.without (p .key) s
+
+-- `pop_expired`
+pub record PoppingExpired (ws : List ℕ) (b : Expiring) (t : Tick) (ws′ : List ℕ) (r : Popped) : Type 0 where
+  pub capacity : capacityOf (r .book) ≡ capacityOf b
+  pub limit : limitOf (r .book) ≡ limitOf b
+  pub lifetime : r .book .«default_ttl» ≡ b .«default_ttl»
+  pub expirations : r .book .expirations ≡ b .expirations
+  pub book : IsBook ws b → IsBook ws′ (r .book)
+  pub popped : IsBook ws b → r .«is_popped» ≡ isSome (nextExpired t (deadlinesOf ws b))
+  pub stored : IsBook ws b → storedOf ws′ (r .book) ≡ lessValue (nextExpired t (deadlinesOf ws b)) (storedOf ws b)
+  pub deadlines : IsBook ws b → deadlinesOf ws′ (r .book) ≡ pairs.withoutExpired t (deadlinesOf ws b)
+  pub heap : IsBook ws b → heapOf ws′ (r .book) ≡ poppedExpired t (heapOf ws b)
+  pub stale : IsBook ws b → r .stale ≡ stale (heapOf ws b)
+  pub kept : Kept (capacityOf b) (limitOf b) ws ws′
+
+-- `purged`
+abbrev pub purging : Expiring → ℕ → ℕ → Reply
+purging b n stale = record { book = withExpired b n; answer = answers.Count n; discarded = saturatingSum n stale }
+
+-- `open_within`
+pub record Opened (ws : List ℕ) (c d s : ℕ) (l : DefaultTtl) (ws′ : List ℕ) (r : expiring.Opened) : Type 0 where
+  pub outcome : r .outcome ≡ Done
+  pub book : IsBook ws′ (r .book)
+  pub model : modelOf ws′ (r .book) 0 0 ≡ fresh c d l
+  pub heap : heapOf ws′ (r .book) ≡ opened d index.factor s
+  pub kept : Kept c d ws ws′

@@ -1,0 +1,928 @@
+// The book's calls.
+ghost use mathlib.Core.Path.{_≡_};
+ghost use lib.ListN.{length};
+ghost use Rattle.time.specs.declared.refusal.Outcome.the-variants.{Refused};
+ghost use Rattle.fast_lru.specs.Model.{without};
+ghost use Rattle.expiring.specs.declared.answers.Answer.the-variants as answers;
+ghost use Rattle.expiring.specs.Model.{contains, peek, get, insert, remove, clear, insertWithTtl, ttlStatus, setTtl, purgeExpired, liveLen, expirations, nextDeadline, touch, recencyRank, popLru, peekLru, keep, set, drop, dropAll, rankIn};
+ghost use Rattle.expiring.specs.Book.{Room, limitsOf, capacityOf, limitOf};
+ghost use Rattle.expiring.specs.Calls.{noBook, Following, Opening, Checking, SettingTtl};
+ghost use Rattle.expiring.specs.Steps.{ofFound, ofTold, ofOldest, ofDue, statusOf, isAccepted, defaultedBy, saturatingSum, withList, withIndex, withExpired, replying, purging, putting, DeadlineOf, Expired, Stored, StoredCount, ExpiredCount, Moved, same, Dating, Valuing, Inserting, Placing, PoppingExpired};
+ghost use Rattle.expiring.specs.Steps as steps;
+use crate::answers::Answer;
+use crate::answers::Reply;
+use expiration_index::Deadline;
+use expiration_index::Due;
+use expiration_index::ExpirationIndex;
+use fast_lru::Count;
+use fast_lru::FastLru;
+use fast_lru::Found;
+use fast_lru::Oldest;
+use fast_lru::Rank;
+use fast_lru::Told;
+use lazy_heap::LazyMinHeap;
+use linked_hash_map::LinkedHashMap;
+use time::Duration;
+use time::Outcome;
+use time::Refusal;
+use time::Remaining;
+use time::Tick;
+use time::Ticked;
+use time::TtlTicks;
+
+// The lifetime of what is inserted without one of its own.
+pub enum DefaultTtl {
+    Of(TtlTicks),
+    Nothing,
+}
+
+// The same, as an opening is told it.
+pub enum DefaultDuration {
+    Of(Duration),
+    Nothing,
+}
+
+// The book's numbers; all else is in the words. Those of a refused opening are all 0.
+pub struct Expiring {
+    pub inner: FastLru,
+    pub index: ExpirationIndex,
+    pub default_ttl: DefaultTtl,
+    pub expirations: u64,
+}
+
+pub struct Opened {
+    pub book: Expiring,
+    pub outcome: Outcome,
+}
+
+// A book after a step that may have been turned back, and how many entries the step discarded.
+struct Dated {
+    book: Expiring,
+    is_set: bool,
+    discarded: usize,
+}
+
+// A book after a step on its values, and the step's answer.
+struct Valued {
+    book: Expiring,
+    answer: Answer,
+}
+
+// A book after a look at its next due, whether that was expired and taken out, and how many stale entries were discarded.
+struct Popped {
+    book: Expiring,
+    is_popped: bool,
+    stale: u64,
+}
+
+// Refusals 1 and 2, of a capacity, a limit of deadlines and a number of words.
+fn limits(capacity: usize, limit: usize, size: usize) -> Outcome
+    ensures { λ r. ⌜ r ≡ limitsOf capacity limit size ⌝ }
+{
+    if 4096 < capacity {
+        return Outcome::Refused(Refusal::LimitOutOfRange);
+    }
+    if limit == 0 {
+        return Outcome::Refused(Refusal::LimitOutOfRange);
+    }
+    if 4096 < limit {
+        return Outcome::Refused(Refusal::LimitOutOfRange);
+    }
+    if size < 128 + 8 * capacity + 32 * limit {
+        return Outcome::Refused(Refusal::TooFewWords);
+    }
+    Outcome::Done
+}
+
+// ---- the answers of the layers below. No book's list or index refuses a call that the book has admitted.
+
+fn of_found(found: Found) -> Answer
+    ensures { λ r. ⌜ r ≡ ofFound found ⌝ }
+{
+    match found {
+        Found::Value(v) => Answer::Value(v),
+        Found::Nothing => Answer::Nothing,
+        Found::Refused(_) => Answer::Nothing,
+    }
+}
+
+fn of_told(told: Told) -> Answer
+    ensures { λ r. ⌜ r ≡ ofTold told ⌝ }
+{
+    match told {
+        Told::Yes => Answer::Yes,
+        Told::No => Answer::No,
+        Told::Refused(_) => Answer::No,
+    }
+}
+
+fn of_oldest(oldest: Oldest) -> Answer
+    ensures { λ r. ⌜ r ≡ ofOldest oldest ⌝ }
+{
+    match oldest {
+        Oldest::Item(key, value) => Answer::Item(key, value),
+        Oldest::Nothing => Answer::Nothing,
+        Oldest::Refused(_) => Answer::Nothing,
+    }
+}
+
+fn of_rank(rank: Rank) -> Answer
+    ensures { λ r. ⌜ r ≡ rankIn rank ⌝ }
+{
+    match rank {
+        Rank::At(n) => Answer::Rank(n as u64),
+        Rank::Nothing => Answer::Nothing,
+        Rank::Refused(_) => Answer::Nothing,
+    }
+}
+
+fn of_due(due: Due) -> Answer
+    ensures { λ r. ⌜ r ≡ ofDue due ⌝ }
+{
+    match due {
+        Due::Pair(key, deadline) => Answer::Due(key, deadline),
+        Due::Nothing => Answer::Nothing,
+        Due::Refused(_) => Answer::Nothing,
+    }
+}
+
+// Whether an index took a deadline.
+fn is_accepted(answer: Deadline) -> bool
+    ensures { λ r. ⌜ r ≡ isAccepted answer ⌝ }
+{
+    match answer {
+        Deadline::At(_) => true,
+        Deadline::Nothing => true,
+        Deadline::Refused(_) => false,
+    }
+}
+
+fn saturating_sum(a: u64, b: u64) -> u64
+    ensures { λ r. ⌜ r ≡ saturatingSum a b ⌝ }
+{
+    if a <= u64::MAX - b { a + b } else { u64::MAX }
+}
+
+// The answer of `ttl_status` for a stored key.
+fn status_of(deadline: Deadline, tick: Tick) -> Answer
+    ensures { λ r. ⌜ r ≡ statusOf deadline tick ⌝ }
+{
+    match deadline {
+        Deadline::At(d) => match d.remaining_at(tick) {
+            Remaining::Expired => Answer::Expired,
+            Remaining::Live(ttl) => Answer::Live(ttl, d),
+        },
+        Deadline::Nothing => Answer::Immortal,
+        Deadline::Refused(_) => Answer::Immortal,
+    }
+}
+
+// A default lifetime in ticks.
+enum Defaulted {
+    To(DefaultTtl),
+    Refused(Refusal),
+}
+
+fn default_of(duration: DefaultDuration) -> Defaulted
+    ensures { λ r. ⌜ r ≡ defaultedBy duration ⌝ }
+{
+    match duration {
+        DefaultDuration::Of(d) => match time::duration_to_ticks(d) {
+            Ticked::Ticks(ttl) => Defaulted::To(DefaultTtl::Of(ttl)),
+            Ticked::Refused(why) => Defaulted::Refused(why),
+        },
+        DefaultDuration::Nothing => Defaulted::To(DefaultTtl::Nothing),
+    }
+}
+
+fn refused_opening(why: Refusal) -> Opened
+    ensures { λ r. ⌜ r ≡ record { book = noBook; outcome = Refused why } ⌝ }
+{
+    Opened {
+        book: Expiring {
+            inner: FastLru {
+                map: LinkedHashMap {
+                    capacity: 0,
+                    len: 0,
+                    refill_in: 0,
+                },
+            },
+            index: ExpirationIndex {
+                heap: LazyMinHeap {
+                    scores: LinkedHashMap {
+                        capacity: 0,
+                        len: 0,
+                        refill_in: 0,
+                    },
+                    entries: 0,
+                    seq: 0,
+                    factor: 0,
+                },
+            },
+            default_ttl: DefaultTtl::Nothing,
+            expirations: 0,
+        },
+        outcome: Outcome::Refused(why),
+    }
+}
+
+fn open_within(
+    words: &mut [u64],
+    capacity: usize,
+    limit: usize,
+    seq: u64,
+    default_ttl: DefaultTtl,
+) -> Opened
+    requires { ⌜ Room (length (now words)) capacity limit ⌝ }
+    ensures { λ r. ⌜ steps.Opened (now (words .entry)) capacity limit seq «default_ttl» (now (words .exit)) r ⌝ }
+{
+    let list = FastLru::new(words, capacity);
+    let start = 64 + 8 * capacity;
+    let deadlines = ExpirationIndex::open(&mut words[start..], limit, seq);
+    let inner = list.lru;
+    let index = deadlines.index;
+    Opened {
+        book: Expiring {
+            inner,
+            index,
+            default_ttl,
+            expirations: 0,
+        },
+        outcome: Outcome::Done,
+    }
+}
+
+impl Expiring {
+    // ---- opening
+
+    // Room for `capacity` values and `limit` deadlines, whose sequence numbers start at `seq`.
+    pub fn open(
+        words: &mut [u64],
+        capacity: usize,
+        limit: usize,
+        seq: u64,
+        default_ttl: DefaultDuration,
+    ) -> Opened
+        ensures { λ r. ⌜ Opening (now (words .entry)) capacity limit seq «default_ttl» (now (words .exit)) r ⌝ }
+    {
+        match limits(capacity, limit, words.len()) {
+            Outcome::Refused(why) => refused_opening(why),
+            Outcome::Done => match default_of(default_ttl) {
+                Defaulted::Refused(why) => refused_opening(why),
+                Defaulted::To(default_ttl) => open_within(words, capacity, limit, seq, default_ttl),
+            },
+        }
+    }
+
+    // ---- what is stored
+
+    pub fn contains(self, words: &[u64], tick: Tick, key: u64) -> Reply
+        ensures { λ r. ⌜ Following (now (words .entry)) self tick (contains key) (now (words .entry)) r ⌝ }
+    {
+        match self.limits(words.len()) {
+            Outcome::Refused(why) => self.refused(why),
+            Outcome::Done => {
+                if self.is_expired(words, tick, key) {
+                    return self.answered(Answer::No);
+                }
+                self.answered(of_told(self.inner.contains(words, key)))
+            }
+        }
+    }
+
+    // It moves nothing.
+    pub fn peek(self, words: &[u64], tick: Tick, key: u64) -> Reply
+        ensures { λ r. ⌜ Following (now (words .entry)) self tick (peek key) (now (words .entry)) r ⌝ }
+    {
+        match self.limits(words.len()) {
+            Outcome::Refused(why) => self.refused(why),
+            Outcome::Done => {
+                if self.is_expired(words, tick, key) {
+                    return self.answered(Answer::Nothing);
+                }
+                self.answered(of_found(self.inner.peek(words, key)))
+            }
+        }
+    }
+
+    // It moves the key to the front; an expired one it removes.
+    pub fn get(self, words: &mut [u64], tick: Tick, key: u64) -> Reply
+        ensures { λ r. ⌜ Following (now (words .entry)) self tick (get key) (now (words .exit)) r ⌝ }
+    {
+        match self.limits(words.len()) {
+            Outcome::Refused(why) => self.refused(why),
+            Outcome::Done => {
+                if self.is_expired(words, tick, key) {
+                    let dropped = self.drop_both(words, key);
+                    let book = dropped.book;
+                    return book.expired(1).answered(Answer::Nothing);
+                }
+                let got = self.inner.get(words, key);
+                let inner = got.lru;
+                let answer = got.answer;
+                self.with_list(inner).answered(of_found(answer))
+            }
+        }
+    }
+
+    pub fn remove(self, words: &mut [u64], tick: Tick, key: u64) -> Reply
+        ensures { λ r. ⌜ Following (now (words .entry)) self tick (remove key) (now (words .exit)) r ⌝ }
+    {
+        match self.limits(words.len()) {
+            Outcome::Refused(why) => self.refused(why),
+            Outcome::Done => self.remove_within(words, tick, key),
+        }
+    }
+
+    // With the default lifetime, or with none.
+    pub fn insert(self, words: &mut [u64], tick: Tick, key: u64, value: u64) -> Reply
+        ensures { λ r. ⌜ Following (now (words .entry)) self tick (insert key value) (now (words .exit)) r ⌝ }
+    {
+        match self.limits(words.len()) {
+            Outcome::Refused(why) => self.refused(why),
+            Outcome::Done => match self.default_ttl {
+                DefaultTtl::Of(ttl) => {
+                    self.insert_until(words, tick, key, value, tick.deadline_from(ttl))
+                }
+                DefaultTtl::Nothing => self.insert_forever(words, tick, key, value),
+            },
+        }
+    }
+
+    // Exactly zero removes the key.
+    pub fn insert_with_ttl(
+        self,
+        words: &mut [u64],
+        tick: Tick,
+        key: u64,
+        value: u64,
+        ttl: Duration,
+    ) -> Reply
+        ensures { λ r. ⌜ Following (now (words .entry)) self tick (insertWithTtl key value ttl) (now (words .exit)) r ⌝ }
+    {
+        match self.limits(words.len()) {
+            Outcome::Refused(why) => self.refused(why),
+            Outcome::Done => match time::duration_to_ticks(ttl) {
+                Ticked::Refused(why) => self.refused(why),
+                Ticked::Ticks(ticks) => {
+                    if ttl.is_zero() {
+                        return self.remove_within(words, tick, key);
+                    }
+                    self.insert_until(words, tick, key, value, tick.deadline_from(ticks))
+                }
+            },
+        }
+    }
+
+    pub fn clear(self, words: &mut [u64], _tick: Tick) -> Reply
+        ensures { λ r. ⌜ Following (now (words .entry)) self «_tick» clear (now (words .exit)) r ⌝ }
+    {
+        match self.limits(words.len()) {
+            Outcome::Refused(why) => self.refused(why),
+            Outcome::Done => {
+                let cleared = self.inner.clear(words);
+                let inner = cleared.lru;
+                let book = self.with_list(inner);
+                let step = book.drop_all_deadlines(words);
+                let book = step.book;
+                Reply {
+                    book,
+                    answer: Answer::Done,
+                    discarded: step.discarded,
+                }
+            }
+        }
+    }
+
+    // ---- lifetimes
+
+    pub fn ttl_status(self, words: &[u64], tick: Tick, key: u64) -> Reply
+        ensures { λ r. ⌜ Following (now (words .entry)) self tick (ttlStatus key) (now (words .entry)) r ⌝ }
+    {
+        match self.limits(words.len()) {
+            Outcome::Refused(why) => self.refused(why),
+            Outcome::Done => {
+                if self.is_stored(words, key) {
+                    return self.answered(status_of(self.deadline_of(words, key), tick));
+                }
+                self.answered(Answer::Missing)
+            }
+        }
+    }
+
+    // 0 ticks remove the key.
+    pub fn set_ttl(self, words: &mut [u64], tick: Tick, key: u64, ttl: Duration) -> Reply
+        ensures { λ r. ⌜ Following (now (words .entry)) self tick (setTtl key ttl) (now (words .exit)) r ⌝ }
+    {
+        match self.limits(words.len()) {
+            Outcome::Refused(why) => self.refused(why),
+            Outcome::Done => match time::duration_to_ticks(ttl) {
+                Ticked::Refused(why) => self.refused(why),
+                Ticked::Ticks(ticks) => self.set_ttl_within(words, tick, key, ticks),
+            },
+        }
+    }
+
+    // Drops every expired pair and its value.
+    pub fn purge_expired(self, words: &mut [u64], tick: Tick) -> Reply
+        ensures { λ r. ⌜ Following (now (words .entry)) self tick purgeExpired (now (words .exit)) r ⌝ }
+    {
+        match self.limits(words.len()) {
+            Outcome::Refused(why) => self.refused(why),
+            Outcome::Done => self.purge_within(words, tick),
+        }
+    }
+
+    // Values stored less deadlines expired, those of keys pushed out among them.
+    pub fn live_len(self, words: &[u64], tick: Tick) -> Reply
+        ensures { λ r. ⌜ Following (now (words .entry)) self tick liveLen (now (words .entry)) r ⌝ }
+    {
+        match self.limits(words.len()) {
+            Outcome::Refused(why) => self.refused(why),
+            Outcome::Done => {
+                let stored = self.stored_count(words);
+                let expired = self.expired_count(words, tick);
+                if stored < expired {
+                    return self.answered(Answer::Count(0));
+                }
+                self.answered(Answer::Count((stored - expired) as u64))
+            }
+        }
+    }
+
+    pub fn expirations(self, words: &[u64], _tick: Tick) -> Reply
+        ensures { λ r. ⌜ Following (now (words .entry)) self «_tick» expirations (now (words .entry)) r ⌝ }
+    {
+        match self.limits(words.len()) {
+            Outcome::Refused(why) => self.refused(why),
+            Outcome::Done => self.answered(Answer::Count(self.expirations)),
+        }
+    }
+
+    // The next due, keys pushed out included. Stale entries before it are discarded.
+    pub fn next_deadline(self, words: &mut [u64], _tick: Tick) -> Reply
+        ensures { λ r. ⌜ Following (now (words .entry)) self «_tick» nextDeadline (now (words .exit)) r ⌝ }
+    {
+        match self.limits(words.len()) {
+            Outcome::Refused(why) => self.refused(why),
+            Outcome::Done => {
+                let start = 64 + 8 * self.inner.map.capacity;
+                let looked = self.index.next_deadline(&mut words[start..]);
+                let index = looked.index;
+                let answer = looked.answer;
+                Reply {
+                    book: self.with_index(index),
+                    answer: of_due(answer),
+                    discarded: looked.discarded,
+                }
+            }
+        }
+    }
+
+    // ---- the recency list's own calls
+
+    pub fn touch(self, words: &mut [u64], _tick: Tick, key: u64) -> Reply
+        ensures { λ r. ⌜ Following (now (words .entry)) self «_tick» (touch key) (now (words .exit)) r ⌝ }
+    {
+        match self.limits(words.len()) {
+            Outcome::Refused(why) => self.refused(why),
+            Outcome::Done => {
+                let touched = self.inner.touch(words, key);
+                let inner = touched.lru;
+                let answer = touched.answer;
+                self.with_list(inner).answered(of_told(answer))
+            }
+        }
+    }
+
+    pub fn recency_rank(self, words: &[u64], _tick: Tick, key: u64) -> Reply
+        ensures { λ r. ⌜ Following (now (words .entry)) self «_tick» (recencyRank key) (now (words .entry)) r ⌝ }
+    {
+        match self.limits(words.len()) {
+            Outcome::Refused(why) => self.refused(why),
+            Outcome::Done => {
+                let ranked = self.inner.recency_rank(words, key);
+                let answer = ranked.answer;
+                self.answered(of_rank(answer))
+            }
+        }
+    }
+
+    pub fn pop_lru(self, words: &mut [u64], _tick: Tick) -> Reply
+        ensures { λ r. ⌜ Following (now (words .entry)) self «_tick» popLru (now (words .exit)) r ⌝ }
+    {
+        match self.limits(words.len()) {
+            Outcome::Refused(why) => self.refused(why),
+            Outcome::Done => {
+                let popped = self.inner.pop_lru(words);
+                let inner = popped.lru;
+                let answer = popped.answer;
+                self.with_list(inner).answered(of_oldest(answer))
+            }
+        }
+    }
+
+    pub fn peek_lru(self, words: &[u64], _tick: Tick) -> Reply
+        ensures { λ r. ⌜ Following (now (words .entry)) self «_tick» peekLru (now (words .entry)) r ⌝ }
+    {
+        match self.limits(words.len()) {
+            Outcome::Refused(why) => self.refused(why),
+            Outcome::Done => self.answered(of_oldest(self.inner.peek_lru(words))),
+        }
+    }
+
+    // ---- the check
+
+    // Whether words and numbers form a book. It refuses nothing.
+    pub fn check(self, words: &[u64]) -> bool
+        ensures { λ r. ⌜ Checking (now (words .entry)) self r ⌝ }
+    {
+        match self.limits(words.len()) {
+            Outcome::Refused(_) => false,
+            Outcome::Done => {
+                if self.inner.check(words) {
+                    let start = 64 + 8 * self.inner.map.capacity;
+                    return self.index.check(&words[start..]);
+                }
+                false
+            }
+        }
+    }
+
+    // ---- replies
+
+    fn limits(self, size: usize) -> Outcome
+        ensures { λ r. ⌜ r ≡ limitsOf (capacityOf self) (limitOf self) size ⌝ }
+    {
+        limits(
+            self.inner.map.capacity,
+            self.index.heap.scores.capacity,
+            size,
+        )
+    }
+
+    fn refused(self, why: Refusal) -> Reply
+        ensures { λ r. ⌜ r ≡ replying self (answers.Refused why) ⌝ }
+    {
+        Reply {
+            book: self,
+            answer: Answer::Refused(why),
+            discarded: 0,
+        }
+    }
+
+    fn answered(self, answer: Answer) -> Reply
+        ensures { λ r. ⌜ r ≡ replying self answer ⌝ }
+    {
+        Reply {
+            book: self,
+            answer,
+            discarded: 0,
+        }
+    }
+
+    // ---- the numbers
+
+    fn with_list(self, inner: FastLru) -> Expiring
+        ensures { λ r. ⌜ r ≡ withList self inner ⌝ }
+    {
+        let index = self.index;
+        let default_ttl = self.default_ttl;
+        Expiring {
+            inner,
+            index,
+            default_ttl,
+            expirations: self.expirations,
+        }
+    }
+
+    fn with_index(self, index: ExpirationIndex) -> Expiring
+        ensures { λ r. ⌜ r ≡ withIndex self index ⌝ }
+    {
+        let inner = self.inner;
+        let default_ttl = self.default_ttl;
+        Expiring {
+            inner,
+            index,
+            default_ttl,
+            expirations: self.expirations,
+        }
+    }
+
+    // n more expirations; the count stops at u64::MAX.
+    fn expired(self, n: u64) -> Expiring
+        ensures { λ r. ⌜ r ≡ withExpired self n ⌝ }
+    {
+        let inner = self.inner;
+        let index = self.index;
+        let default_ttl = self.default_ttl;
+        Expiring {
+            inner,
+            index,
+            default_ttl,
+            expirations: saturating_sum(self.expirations, n),
+        }
+    }
+
+    // ---- what stands in the words
+
+    fn deadline_of(self, words: &[u64], key: u64) -> Deadline
+        requires { ⌜ Room (length (now words)) (capacityOf self) (limitOf self) ⌝ }
+        ensures { λ r. ⌜ DeadlineOf (now (words .entry)) self key r ⌝ }
+    {
+        let start = 64 + 8 * self.inner.map.capacity;
+        self.index.deadline_of(&words[start..], key)
+    }
+
+    fn is_expired(self, words: &[u64], tick: Tick, key: u64) -> bool
+        requires { ⌜ Room (length (now words)) (capacityOf self) (limitOf self) ⌝ }
+        ensures { λ r. ⌜ Expired (now (words .entry)) self tick key r ⌝ }
+    {
+        match self.deadline_of(words, key) {
+            Deadline::At(d) => d.is_expired_at(tick),
+            Deadline::Nothing => false,
+            Deadline::Refused(_) => false,
+        }
+    }
+
+    fn is_stored(self, words: &[u64], key: u64) -> bool
+        ensures { λ r. ⌜ Stored (now (words .entry)) self key r ⌝ }
+    {
+        match self.inner.contains(words, key) {
+            Told::Yes => true,
+            Told::No => false,
+            Told::Refused(_) => false,
+        }
+    }
+
+    fn stored_count(self, words: &[u64]) -> usize
+        ensures { λ r. ⌜ StoredCount (now (words .entry)) self r ⌝ }
+    {
+        match self.inner.len(words) {
+            Count::Number(n) => n,
+            Count::Refused(_) => 0,
+        }
+    }
+
+    fn expired_count(self, words: &[u64], tick: Tick) -> usize
+        requires { ⌜ Room (length (now words)) (capacityOf self) (limitOf self) ⌝ }
+        ensures { λ r. ⌜ ExpiredCount (now (words .entry)) self tick r ⌝ }
+    {
+        let start = 64 + 8 * self.inner.map.capacity;
+        match self.index.expired_count(&words[start..], tick) {
+            expiration_index::Count::Number(n) => n,
+            expiration_index::Count::Refused(_) => 0,
+        }
+    }
+
+    // ---- steps on the deadlines
+
+    fn set_deadline(self, words: &mut [u64], key: u64, deadline: Tick) -> Dated
+        requires { ⌜ Room (length (now words)) (capacityOf self) (limitOf self) ⌝ }
+        ensures { λ r. ⌜ Dating (now (words .entry)) self key deadline (now (words .exit)) r ⌝ }
+    {
+        let start = 64 + 8 * self.inner.map.capacity;
+        let changed = self.index.set_deadline(&mut words[start..], key, deadline);
+        let index = changed.index;
+        let answer = changed.answer;
+        Dated {
+            book: self.with_index(index),
+            is_set: is_accepted(answer),
+            discarded: changed.discarded,
+        }
+    }
+
+    fn drop_deadline(self, words: &mut [u64], key: u64) -> Expiring
+        requires { ⌜ Room (length (now words)) (capacityOf self) (limitOf self) ⌝ }
+        ensures { λ r. ⌜ Moved (now (words .entry)) self (drop key) same (now (words .exit)) r 0 ⌝ }
+    {
+        let start = 64 + 8 * self.inner.map.capacity;
+        let changed = self.index.remove(&mut words[start..], key);
+        let index = changed.index;
+        self.with_index(index)
+    }
+
+    fn drop_all_deadlines(self, words: &mut [u64]) -> Dated
+        requires { ⌜ Room (length (now words)) (capacityOf self) (limitOf self) ⌝ }
+        ensures { λ r. ⌜ Moved (now (words .entry)) self dropAll same (now (words .exit)) (r .book) (r .discarded) ⌝ }
+    {
+        let start = 64 + 8 * self.inner.map.capacity;
+        let cleared = self.index.clear(&mut words[start..]);
+        let index = cleared.index;
+        Dated {
+            book: self.with_index(index),
+            is_set: true,
+            discarded: cleared.discarded,
+        }
+    }
+
+    // ---- steps on the values
+
+    fn drop_value(self, words: &mut [u64], key: u64) -> Valued
+        requires { ⌜ Room (length (now words)) (capacityOf self) (limitOf self) ⌝ }
+        ensures { λ r. ⌜ Valuing (now (words .entry)) self keep key (without key) (now (words .exit)) r ⌝ }
+    {
+        let removed = self.inner.remove(words, key);
+        let inner = removed.lru;
+        let answer = removed.answer;
+        Valued {
+            book: self.with_list(inner),
+            answer: of_found(answer),
+        }
+    }
+
+    // The value first, as the source has it.
+    fn drop_both(self, words: &mut [u64], key: u64) -> Valued
+        requires { ⌜ Room (length (now words)) (capacityOf self) (limitOf self) ⌝ }
+        ensures { λ r. ⌜ Valuing (now (words .entry)) self (drop key) key (without key) (now (words .exit)) r ⌝ }
+    {
+        let dropped = self.drop_value(words, key);
+        let book = dropped.book;
+        let answer = dropped.answer;
+        Valued {
+            book: book.drop_deadline(words, key),
+            answer,
+        }
+    }
+
+    fn put_value(self, words: &mut [u64], key: u64, value: u64) -> Valued
+        requires { ⌜ Room (length (now words)) (capacityOf self) (limitOf self) ⌝ }
+        ensures { λ r. ⌜ Valuing (now (words .entry)) self keep key (putting self key value) (now (words .exit)) r ⌝ }
+    {
+        let put = self.inner.insert(words, key, value);
+        let inner = put.lru;
+        let answer = put.answer;
+        Valued {
+            book: self.with_list(inner),
+            answer: of_found(answer),
+        }
+    }
+
+    // ---- the larger calls, on words and numbers within their limits
+
+    fn remove_within(self, words: &mut [u64], tick: Tick, key: u64) -> Reply
+        requires { ⌜ Room (length (now words)) (capacityOf self) (limitOf self) ⌝ }
+        ensures { λ r. ⌜ steps.Removing (now (words .entry)) self tick key (now (words .exit)) r ⌝ }
+    {
+        let was_expired = self.is_expired(words, tick, key);
+        let dropped = self.drop_both(words, key);
+        let book = dropped.book;
+        if was_expired {
+            return book.expired(1).answered(Answer::Nothing);
+        }
+        let answer = dropped.answer;
+        book.answered(answer)
+    }
+
+    fn insert_until(
+        self,
+        words: &mut [u64],
+        tick: Tick,
+        key: u64,
+        value: u64,
+        deadline: Tick,
+    ) -> Reply
+        requires { ⌜ Room (length (now words)) (capacityOf self) (limitOf self) ⌝ }
+        ensures { λ r. ⌜ Inserting (now (words .entry)) self tick key value (set key deadline) (now (words .exit)) r ⌝ }
+    {
+        let was_expired = self.is_expired(words, tick, key);
+        let dated = self.set_deadline(words, key, deadline);
+        if !dated.is_set {
+            return self.refused(Refusal::KeyLimitReached);
+        }
+        let book = dated.book;
+        book.put_within(words, key, value, was_expired, dated.discarded)
+    }
+
+    fn insert_forever(self, words: &mut [u64], tick: Tick, key: u64, value: u64) -> Reply
+        requires { ⌜ Room (length (now words)) (capacityOf self) (limitOf self) ⌝ }
+        ensures { λ r. ⌜ Inserting (now (words .entry)) self tick key value (drop key) (now (words .exit)) r ⌝ }
+    {
+        let was_expired = self.is_expired(words, tick, key);
+        let book = self.drop_deadline(words, key);
+        book.put_within(words, key, value, was_expired, 0)
+    }
+
+    // The value goes in; the old one is the answer, unless it was expired.
+    fn put_within(
+        self,
+        words: &mut [u64],
+        key: u64,
+        value: u64,
+        was_expired: bool,
+        discarded: usize,
+    ) -> Reply
+        requires { ⌜ Room (length (now words)) (capacityOf self) (limitOf self) ⌝ }
+        ensures { λ r. ⌜ Placing (now (words .entry)) self key value «was_expired» discarded (now (words .exit)) r ⌝ }
+    {
+        let put = self.put_value(words, key, value);
+        let book = put.book;
+        if was_expired {
+            return Reply {
+                book: book.expired(1),
+                answer: Answer::Nothing,
+                discarded,
+            };
+        }
+        let answer = put.answer;
+        Reply {
+            book,
+            answer,
+            discarded,
+        }
+    }
+
+    fn set_ttl_within(self, words: &mut [u64], tick: Tick, key: u64, ticks: TtlTicks) -> Reply
+        requires { ⌜ Room (length (now words)) (capacityOf self) (limitOf self) ⌝ }
+        ensures { λ r. ⌜ SettingTtl (now (words .entry)) self tick key ticks (now (words .exit)) r ⌝ }
+    {
+        if !self.is_stored(words, key) {
+            return self.answered(Answer::No);
+        }
+        if self.is_expired(words, tick, key) {
+            let dropped = self.drop_both(words, key);
+            let book = dropped.book;
+            return book.expired(1).answered(Answer::No);
+        }
+        if ticks.0 == 0 {
+            let dropped = self.drop_both(words, key);
+            let book = dropped.book;
+            return book.answered(Answer::No);
+        }
+        let dated = self.set_deadline(words, key, tick.deadline_from(ticks));
+        if !dated.is_set {
+            return self.refused(Refusal::KeyLimitReached);
+        }
+        let book = dated.book;
+        Reply {
+            book,
+            answer: Answer::Yes,
+            discarded: dated.discarded,
+        }
+    }
+
+    // Takes the expired pairs out, the next due first. Each pair's entry has then left the heap, and counts as discarded.
+    fn purge_within(self, words: &mut [u64], tick: Tick) -> Reply
+        requires { ⌜ Room (length (now words)) (capacityOf self) (limitOf self) ⌝ }
+        ensures { λ r. ⌜ Following (now (words .entry)) self tick purgeExpired (now (words .exit)) r ⌝ }
+    {
+        let mut book = self;
+        let mut count = 0;
+        let mut stale = 0;
+        let mut left = self.index.heap.scores.capacity + 1;
+        while 0 < left {
+            let step = book.pop_expired(words, tick);
+            book = step.book;
+            stale = saturating_sum(stale, step.stale);
+            if !step.is_popped {
+                return book.purged(count, stale);
+            }
+            count += 1;
+            left -= 1;
+        }
+        book.purged(count, stale)
+    }
+
+    fn purged(self, count: u64, stale: u64) -> Reply
+        ensures { λ r. ⌜ r ≡ purging self count stale ⌝ }
+    {
+        Reply {
+            book: self.expired(count),
+            answer: Answer::Count(count),
+            discarded: saturating_sum(count, stale) as usize,
+        }
+    }
+
+    // Takes the next due out if it is expired, and its value.
+    fn pop_expired(self, words: &mut [u64], tick: Tick) -> Popped
+        requires { ⌜ Room (length (now words)) (capacityOf self) (limitOf self) ⌝ }
+        ensures { λ r. ⌜ PoppingExpired (now (words .entry)) self tick (now (words .exit)) r ⌝ }
+    {
+        let start = 64 + 8 * self.inner.map.capacity;
+        let looked = self.index.pop_expired(&mut words[start..], tick);
+        let index = looked.index;
+        let book = self.with_index(index);
+        let stale = looked.discarded as u64;
+        match looked.answer {
+            Due::Pair(key, _) => {
+                let dropped = book.drop_value(words, key);
+                let book = dropped.book;
+                Popped {
+                    book,
+                    is_popped: true,
+                    stale,
+                }
+            }
+            Due::Nothing => Popped {
+                book,
+                is_popped: false,
+                stale,
+            },
+            Due::Refused(_) => Popped {
+                book,
+                is_popped: false,
+                stale,
+            },
+        }
+    }
+}

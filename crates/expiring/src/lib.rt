@@ -1,0 +1,20 @@
+// An expiring recency cache: `Expiring<FastLru>` of docs/src/policy/expiring.rs, in words that the caller lends.
+//
+//   0            64 + 8 C                          128 + 8 C + 32 D
+//   | values     | deadlines                       |
+//
+// The values stand in a recency list with room for C keys, and the deadlines in an index with room for D, each in a part
+// of the words of its own. A key that is pushed out of the list keeps its deadline.
+//
+// Each call is handed the tick that the clock reads. It answers with the book's numbers beside its answer; whoever makes
+// the next call hands these numbers in again. Any words and any numbers may be handed to any call. A refusal changes
+// nothing; on words and numbers that form no book, only they may change.
+mod answers;
+mod expiring;
+
+pub use answers::Answer;
+pub use answers::Reply;
+pub use expiring::DefaultDuration;
+pub use expiring::DefaultTtl;
+pub use expiring::Expiring;
+pub use expiring::Opened;
