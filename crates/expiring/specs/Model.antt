@@ -20,7 +20,7 @@ use Rattle.fast_lru.specs.declared.answers.Rank.{Rank}
 use Rattle.fast_lru.specs.declared.answers.Rank.the-variants as rank
 use Rattle.fast_lru.specs.Model.{Item, Items, toFront, inserted, last, popped, rankOf}
 use Rattle.fast_lru.specs.Model as list
-use Rattle.expiration_index.specs.Model.{Pair, Pairs, next, isFull, expiredCount}
+use Rattle.expiration_index.specs.Model.{Pair, Pairs, next, isFull, expiredCount, unexpired}
 use Rattle.expiration_index.specs.Model as pairs
 use Rattle.expiring.specs.declared.answers.Answer.{Answer}
 use Rattle.expiring.specs.declared.answers.Answer.the-variants as answer
@@ -118,10 +118,6 @@ changeOf t (touch k) b = keep
 changeOf t (recencyRank k) b = keep
 changeOf t popLru b = keep
 changeOf t peekLru b = keep
-
-unfoldable pub unexpired : Tick → Pairs → Pairs
-unexpired t [] = []
-unexpired t (p ∷ l) = cond (isExpiredAt (p .deadline) t) (unexpired t l) (p ∷ unexpired t l)
 
 -- "Setting a deadline appends the new pair; the key's old pair, if any, goes"
 unfoldable pub pairsAfter : Change → Pairs → Pairs
