@@ -1,0 +1,4 @@
+pub mod Frames
+pub mod Limits
+pub mod Moving
+pub mod Acting
