@@ -34,11 +34,11 @@ same-refusal : {v w : Refusal} → answers.Refused v ≡ answers.Refused w → v
 same-refusal e = cc
 
 -- an answer that is no refusal
-pub Accepted : Answer → Type 0
+abbrev pub Accepted : Answer → Type 0
 Accepted a = (why : Refusal) → a ≡ answers.Refused why → ⊥
 
 -- ---- what the model says of a call, by whether it refuses
-module _ {t : Tick} {c : Call} {m : Book} where
+module _ (t : Tick) (c : Call) (m : Book) where
   answer-refused : {why : Refusal} → refusalOf t c m ≡ Refused why → answerOf t c m ≡ answers.Refused why
   unfolding answerOf
   answer-refused e = rw e
@@ -85,8 +85,8 @@ beyond-is (dropExpired t) ws b m n = refl
 beyond-is dropAll ws b m n = refl
 beyond-is look ws b m n = refl
 
-reads-at : {ws : List ℕ} {b : Expiring} {p q : Book} → p ≡ q → modelOf ws b (q .replaced) (q .removed) ≡ q → modelOf ws b (p .replaced) (p .removed) ≡ p
-reads-at e h = rw e h
+reads-at : (ws : List ℕ) (b : Expiring) {p q : Book} → p ≡ q → modelOf ws b (q .replaced) (q .removed) ≡ q → modelOf ws b (p .replaced) (p .removed) ≡ p
+reads-at ws b e h = rw e h
 
 reads-itself : (ws : List ℕ) (b : Expiring) (m n : ℕ) → modelOf ws b (modelOf ws b m n .replaced) (modelOf ws b m n .removed) ≡ modelOf ws b m n
 unfolding modelOf
@@ -113,10 +113,10 @@ module _ (ws : List ℕ) (b : Expiring) (t : Tick) (c : Call) where
     only = λ w q. inl (let x : why ≡ w = same-refusal q in e ∙ ap Refused x);
     refused = λ w q. (refl, refl, refl);
     book = λ o. o;
-    answer = λ o m n. sym (answer-refused (f o m n));
-    model = λ o m n. reads-at (book-refused (f o m n)) (reads-itself ws b m n);
-    discarded = λ o m n. sym (discards-refused (heapOf ws b) (f o m n));
-    heap = λ o m n. sym (heap-refused (heapOf ws b) (f o m n));
+    answer = λ o m n. sym (answer-refused t c _ (f o m n));
+    model = λ o m n. reads-at ws b (book-refused t c _ (f o m n)) (reads-itself ws b m n);
+    discarded = λ o m n. sym (discards-refused t c _ (heapOf ws b) (f o m n));
+    heap = λ o m n. sym (heap-refused t c _ (heapOf ws b) (f o m n));
     kept = kept-same (capacityOf b) (limitOf b) ws;
   }
 
@@ -124,6 +124,7 @@ module _ (ws : List ℕ) (b : Expiring) (t : Tick) (c : Call) where
   follow-limits e = turned-back (cause-limits e) (λ o. absurd (no-book ws b e o))
 
   pub follow-nanos : limitsOf (capacityOf b) (limitOf b) (length ws) ≡ Done → badNanos c ≡ true → Following ws b t c ws (replying b (answers.Refused InvalidNanos))
+  unfolding refusalOf
   follow-nanos l n = turned-back (cause-nanos l n) (λ o x y. refusal x y)
     where
       refusal : (x y : ℕ) → refusalOf t c (modelOf ws b x y) ≡ Refused InvalidNanos
@@ -150,10 +151,10 @@ module _ (ws : List ℕ) (b : Expiring) (t : Tick) (c : Call) where
       only = λ why e. inr (no-cause limits nanos, act .only why e);
       refused = act .refused;
       book = act .book;
-      answer = λ o x y. by o (λ e. act .full o e ∙ sym (answer-refused (full o e x y))) (λ e. act .answer o e ∙ sym (answer o x y) ∙ sym (answer-done (done o e x y)));
-      model = λ o x y. by o (λ e. reads-at (book-refused (full o e x y)) (let q = act .refused _ (act .full o e) in rw (q .0, q .2) (reads-itself ws b x y))) (λ e. reads-at (book-done (done o e x y)) (model-done o e x y));
-      discarded = λ o x y. by o (λ e. act .refused _ (act .full o e) .1 ∙ sym (discards-refused (heapOf ws b) (full o e x y))) (λ e. act .discarded o e ∙ ap (λ (z : Change). discards z (heapOf ws b)) (sym (change o x y)) ∙ sym (discards-done (heapOf ws b) (done o e x y)));
-      heap = λ o x y. by o (λ e. (let q = act .refused _ (act .full o e) in rw (q .0, q .2)) ∙ sym (heap-refused (heapOf ws b) (full o e x y))) (λ e. act .heap o e ∙ ap (λ (z : Change). heapAfter z (heapOf ws b)) (sym (change o x y)) ∙ sym (heap-done (heapOf ws b) (done o e x y)));
+      answer = λ o x y. by o (λ e. act .full o e ∙ sym (answer-refused t c _ (full o e x y))) (λ e. act .answer o e ∙ sym (answer o x y) ∙ sym (answer-done t c _ (done o e x y)));
+      model = λ o x y. by o (λ e. reads-at ws′ (r .book) (book-refused t c _ (full o e x y)) (let q = act .refused _ (act .full o e) in rw (q .0, q .2) (reads-itself ws b x y))) (λ e. reads-at ws′ (r .book) (book-done t c _ (done o e x y)) (model-done o e x y));
+      discarded = λ o x y. by o (λ e. act .refused _ (act .full o e) .1 ∙ sym (discards-refused t c _ (heapOf ws b) (full o e x y))) (λ e. act .discarded o e ∙ ap (λ (z : Change). discards z (heapOf ws b)) (sym (change o x y)) ∙ sym (discards-done t c _ (heapOf ws b) (done o e x y)));
+      heap = λ o x y. by o (λ e. (let q = act .refused _ (act .full o e) in rw (q .0, q .2)) ∙ sym (heap-refused t c _ (heapOf ws b) (full o e x y))) (λ e. act .heap o e ∙ ap (λ (z : Change). heapAfter z (heapOf ws b)) (sym (change o x y)) ∙ sym (heap-done t c _ (heapOf ws b) (done o e x y)));
       kept = act .kept;
     }
       where
@@ -192,8 +193,8 @@ module _ {ws ws′ : List ℕ} {b b′ : Expiring} {ch : Change} {f : Items → 
   }
 
   -- with none; the book's count is a word
-  pub acting : b .expirations < 2 ^ 64 → {s : Items} {a u : Answer} → Accepted u → (IsBook ws b → f (storedOf ws b) ≡ s) → (IsBook ws b → u ≡ a) → Acting ws b ch s 0 a ws′ (record { book = b′; answer = u; discarded = d })
-  acting w v stored answer = record {
+  pub acting : b .expirations < 2 ^ 64 → {k : ℕ} {s : Items} {a u : Answer} → Accepted u → (IsBook ws b → f (storedOf ws b) ≡ s) → (IsBook ws b → 0 ≡ k) → (IsBook ws b → u ≡ a) → Acting ws b ch s k a ws′ (record { book = b′; answer = u; discarded = d })
+  acting w v stored count answer = record {
     only = λ why e. absurd (v why e);
     refused = λ why e. absurd (v why e);
     full = λ o e. absurd (true≢false (sym e ∙ free o));
@@ -202,10 +203,29 @@ module _ {ws ws′ : List ℕ} {b b′ : Expiring} {ch : Change} {f : Items → 
     lifetime = move .lifetime;
     book = move .book;
     answer = λ o e. answer o;
-    expirations = λ o e. move .expirations ∙ omega (arith, w);
+    expirations = λ o e. move .expirations ∙ omega (arith, w, count o);
     stored = λ o e. move .stored o ∙ stored o;
     deadlines = λ o e. move .deadlines o;
     heap = λ o e. move .heap o;
     discarded = λ o e. move .discarded o;
     kept = move .kept;
   }
+
+-- and where there is no room for another deadline
+pub acting-full : (ws : List ℕ) (b : Expiring) {ch : Change} {s : Items} {n : ℕ} {a : Answer} {ws′ : List ℕ} → ws′ ≡ ws → (IsBook ws b → beyond ch ws b ≡ true) → Acting ws b ch s n a ws′ (replying b (answers.Refused KeyLimitReached))
+acting-full ws b {ch} e f = record {
+  only = λ why q. sym (same-refusal q);
+  refused = λ why q. (refl, refl, e);
+  full = λ o q. refl;
+  capacity = refl;
+  limit = refl;
+  lifetime = refl;
+  book = λ o. rw e o;
+  answer = λ o q. absurd (true≢false (sym (f o) ∙ q));
+  expirations = λ o q. absurd (true≢false (sym (f o) ∙ q));
+  stored = λ o q. absurd (true≢false (sym (f o) ∙ q));
+  deadlines = λ o q. absurd (true≢false (sym (f o) ∙ q));
+  heap = λ o q. absurd (true≢false (sym (f o) ∙ q));
+  discarded = λ o q. absurd (true≢false (sym (f o) ∙ q));
+  kept = rw e (kept-same (capacityOf b) (limitOf b) ws);
+}

@@ -3,21 +3,25 @@ use mathlib.Core.Path.{_≡_, refl, sym, ap, _∙_}
 use mathlib.Core.List.{List}
 use Prim.Native.Nat.{ℕ, _-_, _≤_}
 use native.Mathlib.Omega.{arith}
-use lib.ListN.{length, drop}
+use lib.ListN.{length}
+use lib.ListN as words
 use borrow.Rule.Slice.PartMut.{midOf, putMid}
 use Rattle.time.specs.declared.refusal.Outcome.{Outcome}
-use Rattle.lazy_heap.specs.Model.{Heap}
+use Rattle.lazy_heap.specs.Model.{Heap, removed, peeked}
+use Rattle.lazy_heap.specs.Calls.{nothing, stale}
 use Rattle.lazy_heap.specs.Words as heap
 use Rattle.fast_lru.specs.declared.lru.FastLru.{FastLru}
 use Rattle.fast_lru.specs.Model.{Items}
 use Rattle.fast_lru.specs.Lru as lru
 use Rattle.fast_lru.proofs.Laws as list
 use Rattle.expiration_index.specs.declared.index.ExpirationIndex.{ExpirationIndex}
+use Rattle.expiration_index.specs.declared.answers.Cleared.{Cleared}
 use Rattle.expiration_index.specs.Model.{Pairs}
+use Rattle.expiration_index.specs.Model as pairs
 use Rattle.expiration_index.specs.Index as index
 use Rattle.expiration_index.specs.Calls as calls
 use Rattle.expiring.specs.declared.expiring.Expiring.{Expiring}
-use Rattle.expiring.specs.Model.{Change, keep, pairsAfter}
+use Rattle.expiring.specs.Model.{Change, keep, drop, dropAll, look, pairsAfter}
 use Rattle.expiring.specs.Discards.{discards, heapAfter}
 use Rattle.expiring.specs.Book.{start, Room, capacityOf, limitOf, rest, IsBook, heapOf, Kept}
 use Rattle.expiring.specs.Steps.{withList, withIndex, storedOf, deadlinesOf, Moved, same}
@@ -39,7 +43,7 @@ discards-keep h = refl
 -- ---- a step on the values
 module _ {ws ws′ : List ℕ} (b : Expiring) (l : FastLru) (c : l .map .capacity ≡ capacityOf b) (k : lru.Kept (capacityOf b) ws ws′) where
   pub rest-list : rest ws′ (withList b l) ≡ rest ws b
-  rest-list = ap (λ (n : ℕ). drop (start n) ws′) c ∙ list.kept-drop (capacityOf b) ws ws′ k
+  rest-list = ap (λ (n : ℕ). words.drop (start n) ws′) c ∙ list.kept-drop (capacityOf b) ws ws′ k
 
   pub moved-list : (f : Items → Items) → (lru.IsList ws (b .inner) → lru.IsList ws′ l) → (lru.IsList ws (b .inner) → lru.modelOf ws′ l ≡ f (lru.modelOf ws (b .inner))) → Moved ws b keep f ws′ (withList b l) 0
   moved-list f is model = record {
@@ -105,6 +109,29 @@ module _ (ws : List ℕ) (b : Expiring) (room : Room (length ws) (capacityOf b) 
       let state = ap (λ (l : List ℕ). index.heapOf l (b .index)) lent-is in
       moved-index x (k .kept) ch (k .limit) (λ o. k .index (lent-index o)) (λ o. k .model (lent-index o) ∙ a _ ∙ ap (pairsAfter ch) model) (λ o. k .heap (lent-index o) ∙ n _ ∙ ap (heapAfter ch) state) (λ o. k .discarded (lent-index o) ∙ e _ ∙ ap (discards ch) state)
 
+  pub moved-drop : (k : ℕ) {told : Outcome} {ys : List ℕ} {x : ExpirationIndex} {d : ℕ} → calls.Call (lent ws b) (b .index) told (pairs.without k) (removed k) nothing ys x d → Moved ws b (drop k) same (back ws b ys) (withIndex b x) 0
+  unfolding pairsAfter heapAfter discards
+  moved-drop k c = let m = moved-call (drop k) c (λ l. refl) (λ h. refl) (λ h. refl) in record {
+    capacity = m .capacity;
+    limit = m .limit;
+    lifetime = m .lifetime;
+    expirations = m .expirations;
+    book = m .book;
+    stored = m .stored;
+    deadlines = m .deadlines;
+    heap = m .heap;
+    discarded = λ o. refl;
+    kept = m .kept;
+  }
+
+  pub moved-clear : {ys : List ℕ} {r : Cleared} → calls.Clearing (lent ws b) (b .index) ys r → Moved ws b dropAll same (back ws b ys) (withIndex b (r .index)) (r .discarded)
+  unfolding pairsAfter heapAfter discards
+  moved-clear c = moved-call dropAll c (λ l. refl) (λ h. refl) (λ h. refl)
+
+  pub moved-look : {told : Outcome} {ys : List ℕ} {x : ExpirationIndex} {d : ℕ} → calls.Call (lent ws b) (b .index) told (λ l. l) peeked stale ys x d → Moved ws b look same (back ws b ys) (withIndex b x) d
+  unfolding pairsAfter heapAfter discards
+  moved-look c = moved-call look c (λ l. refl) (λ h. refl) (λ h. refl)
+
 -- ---- one step and then another
 module _ {ws ws₁ ws₂ : List ℕ} {b b₁ b₂ : Expiring} {f : Items → Items} {ch : Change} {d : ℕ} where
   -- first the values
@@ -151,3 +178,6 @@ moved-same ws b = record {
   discarded = λ o. sym (discards-keep (heapOf ws b));
   kept = record { size = refl; past = λ j h. refl };
 }
+
+pub room-moved : {ws ws′ : List ℕ} {b b′ : Expiring} {ch : Change} {f : Items → Items} {d : ℕ} → Moved ws b ch f ws′ b′ d → Room (length ws) (capacityOf b) (limitOf b) → Room (length ws′) (capacityOf b′) (limitOf b′)
+room-moved m r = rw (m .kept .size, m .capacity, m .limit) r

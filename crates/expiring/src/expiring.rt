@@ -719,7 +719,6 @@ impl Expiring {
     // ---- steps on the values
 
     fn drop_value(self, words: &mut [u64], key: u64) -> Valued
-        requires { ⌜ Room (length (now words)) (capacityOf self) (limitOf self) ⌝ }
         ensures { λ r. ⌜ Valuing (now (words .entry)) self keep key (without key) (now (words .exit)) r ⌝ }
     {
         let removed = self.inner.remove(words, key);
@@ -746,7 +745,6 @@ impl Expiring {
     }
 
     fn put_value(self, words: &mut [u64], key: u64, value: u64) -> Valued
-        requires { ⌜ Room (length (now words)) (capacityOf self) (limitOf self) ⌝ }
         ensures { λ r. ⌜ Valuing (now (words .entry)) self keep key (putting self key value) (now (words .exit)) r ⌝ }
     {
         let put = self.inner.insert(words, key, value);
@@ -812,7 +810,6 @@ impl Expiring {
         was_expired: bool,
         discarded: usize,
     ) -> Reply
-        requires { ⌜ Room (length (now words)) (capacityOf self) (limitOf self) ⌝ }
         ensures { λ r. ⌜ Placing (now (words .entry)) self key value «was_expired» discarded (now (words .exit)) r ⌝ }
     {
         let put = self.put_value(words, key, value);

@@ -1,3 +1,4 @@
+use mathlib.Core.Path.{sym, _∙_, ap}
 use borrow.Author.Needs.{needs}
 use Rattle.expiring.proofs.expiring.default_of.Statement.{statement}
 use Rattle.expiring.proofs.expiring.default_of.Tie as tie
@@ -11,6 +12,6 @@ default-of-spec =
     (λ c. search needs)
     (λ c. search needs)
     (λ c. search needs)
-    (λ c. ?returns)
-    (λ c. ?returns-2)
-    (λ c. ?returns-3))
+    (λ c. let t = c .before in let d = t .before .before in rw (d .before .before .duration .given .1, sym (d .duration-to-ticks .ensures) ∙ t .ttl .given .1))
+    (λ c. let t = c .before in let d = t .before .before in rw (d .before .before .duration .given .1, sym (d .duration-to-ticks .ensures) ∙ t .why .given .1))
+    (λ c. rw (c .enum-told .given .1)))

@@ -9,6 +9,6 @@ of-due-spec =
     (λ c. search needs)
     (λ c. search needs)
     (λ c. search needs)
-    (λ c. ?returns)
+    (λ c. rw (c .before .due .given .1))
     (λ c. search needs)
     (λ c. search needs))

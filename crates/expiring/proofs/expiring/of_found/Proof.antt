@@ -9,6 +9,6 @@ of-found-spec =
     (λ c. search needs)
     (λ c. search needs)
     (λ c. search needs)
-    (λ c. ?returns)
+    (λ c. rw (c .before .found .given .1))
     (λ c. search needs)
     (λ c. search needs))

@@ -9,6 +9,6 @@ of-oldest-spec =
     (λ c. search needs)
     (λ c. search needs)
     (λ c. search needs)
-    (λ c. ?returns)
+    (λ c. rw (c .before .oldest .given .1))
     (λ c. search needs)
     (λ c. search needs))

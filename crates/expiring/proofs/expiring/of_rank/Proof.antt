@@ -9,6 +9,6 @@ of-rank-spec =
     (λ c. search needs)
     (λ c. search needs)
     (λ c. search needs)
-    (λ c. ?returns)
+    (λ c. rw (c .before .rank .given .1))
     (λ c. search needs)
     (λ c. search needs))

@@ -1,3 +1,4 @@
+use mathlib.Core.Path.{sym, _∙_}
 use borrow.Author.Needs.{needs}
 use Rattle.expiring.proofs.expiring.status_of.Statement.{statement}
 use Rattle.expiring.proofs.expiring.status_of.Tie as tie
@@ -12,7 +13,7 @@ status-of-spec =
     (λ c. search needs)
     (λ c. search needs)
     (λ c. search needs)
-    (λ c. ?returns)
-    (λ c. ?returns-2)
+    (λ c. let d = c .before .before in rw (d .before .before .deadline .given .1, sym (d .remaining-at .ensures) ∙ c .enum-told .given .1))
+    (λ c. let t = c .before in let d = t .before .before in rw (d .before .before .deadline .given .1, sym (d .remaining-at .ensures) ∙ t .ttl .given .1))
     (λ c. search needs)
     (λ c. search needs))

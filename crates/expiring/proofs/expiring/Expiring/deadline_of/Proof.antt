@@ -1,3 +1,4 @@
+use Rattle.expiring.proofs.Asking.{asking-deadline}
 use borrow.Author.Needs.{needs}
 use Rattle.expiring.proofs.expiring.Expiring.deadline_of.Statement.{statement}
 use Rattle.expiring.proofs.expiring.Expiring.deadline_of.Tie as tie
@@ -13,4 +14,4 @@ deadline-of-spec =
     (λ c. search needs)
     (λ c. search needs)
     (λ c κs. search needs)
-    (λ c. ?returns))
+    (λ c. asking-deadline _ _ (c .before .before .before .before .pre) _ (c .deadline-of .ensures)))

@@ -1,3 +1,4 @@
+use Rattle.expiring.proofs.Moving.{moved-clear}
 use borrow.Author.Needs.{needs}
 use Rattle.expiring.proofs.expiring.Expiring.drop_all_deadlines.Statement.{statement}
 use Rattle.expiring.proofs.expiring.Expiring.drop_all_deadlines.Tie as tie
@@ -15,4 +16,4 @@ drop-all-deadlines-spec =
     (λ c κs. search needs)
     (λ c κs. search needs)
     (λ c. search needs)
-    (λ c. ?returns))
+    (λ c. let k = c .before .before .before .before in rw (c .with-index .ensures) (moved-clear _ _ (k .before .before .before .before .pre) (k .clear .ensures))))

@@ -1,3 +1,4 @@
+use Rattle.expiring.proofs.Moving.{moved-drop}
 use borrow.Author.Needs.{needs}
 use Rattle.expiring.proofs.expiring.Expiring.drop_deadline.Statement.{statement}
 use Rattle.expiring.proofs.expiring.Expiring.drop_deadline.Tie as tie
@@ -15,4 +16,4 @@ drop-deadline-spec =
     (λ c κs. search needs)
     (λ c κs. search needs)
     (λ c. search needs)
-    (λ c. ?returns))
+    (λ c. let k = c .before .before .before .before in rw (c .with-index .ensures) (moved-drop _ _ (k .before .before .before .before .pre) _ (k .remove .ensures .call))))

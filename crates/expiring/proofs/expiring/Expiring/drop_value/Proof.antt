@@ -1,3 +1,4 @@
+use Rattle.expiring.proofs.Valuing.{dropping}
 use borrow.Author.Needs.{needs}
 use Rattle.expiring.proofs.expiring.Expiring.drop_value.Statement.{statement}
 use Rattle.expiring.proofs.expiring.Expiring.drop_value.Tie as tie
@@ -10,4 +11,4 @@ drop-value-spec =
     (λ c κs. search needs)
     (λ c κs. search needs)
     (λ c. search needs)
-    (λ c. ?returns))
+    (λ c. rw (c .before .with-list .ensures) (dropping _ _ (c .before .before .before .before .before .remove .ensures) (c .of-found .ensures))))

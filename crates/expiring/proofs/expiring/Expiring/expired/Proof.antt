@@ -7,4 +7,4 @@ expired-spec =
     tie.close
     (tie.spec
     (λ c κs. search needs)
-    (λ c. ?returns))
+    (λ c. rw (c .saturating-sum .ensures)))

@@ -1,3 +1,4 @@
+use Rattle.expiring.proofs.Asking.{asking-expired, asking-none}
 use borrow.Author.Needs.{needs}
 use Rattle.expiring.proofs.expiring.Expiring.expired_count.Statement.{statement}
 use Rattle.expiring.proofs.expiring.Expiring.expired_count.Tie as tie
@@ -15,5 +16,5 @@ expired-count-spec =
     (λ c κs. search needs)
     (λ c. search needs)
     (λ c. search needs)
-    (λ c. ?returns)
-    (λ c. ?returns-2))
+    (λ c. let e = c .before .before .before in asking-expired _ _ (e .before .before .before .before .pre) _ (e .expired-count .ensures) (c .before .n .given .1))
+    (λ c. let e = c .before .before in asking-none _ _ (e .before .before .before .before .pre) _ (e .expired-count .ensures) (c .enum-told .given .1)))

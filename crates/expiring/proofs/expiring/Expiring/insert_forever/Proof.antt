@@ -1,3 +1,5 @@
+use mathlib.Core.Path.{refl}
+use Rattle.expiring.proofs.Calling.{inserting}
 use borrow.Author.Needs.{needs}
 use Rattle.expiring.proofs.expiring.Expiring.insert_forever.Statement.{statement}
 use Rattle.expiring.proofs.expiring.Expiring.insert_forever.Tie as tie
@@ -10,4 +12,4 @@ insert-forever-spec =
     (λ c κs. search needs)
     (λ c κs. search needs)
     (λ c. search needs)
-    (λ c. ?returns))
+    (λ c. let p = c .before .before in let d = p .before .before .before .before in inserting (d .drop-deadline .ensures) (λ o. refl) (d .before .before .is-expired .ensures) (p .put-within .ensures)))

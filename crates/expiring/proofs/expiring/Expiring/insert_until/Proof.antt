@@ -1,3 +1,7 @@
+use mathlib.Core.Path.{refl}
+use Rattle.binary_heap.proofs.Limits.{unfit, fitting}
+use Rattle.expiring.proofs.Acting.{acting-full}
+use Rattle.expiring.proofs.Calling.{inserting, unset-beyond, set-within}
 use borrow.Author.Needs.{needs}
 use Rattle.expiring.proofs.expiring.Expiring.insert_until.Statement.{statement}
 use Rattle.expiring.proofs.expiring.Expiring.insert_until.Tie as tie
@@ -10,7 +14,7 @@ insert-until-spec =
     (λ c κs. search needs)
     (λ c κs. search needs)
     (λ c. search needs)
-    (λ c. ?returns)
-    (λ c κs. ?put-within-requires)
+    (λ c. let i = c .before in let d = i .before .before .before .before .set-deadline .ensures in let n = unfit refl (i .if1 .taken) in rw (c .refused .ensures) (acting-full _ _ (d .refused n) (unset-beyond d n)))
+    (λ c κs. search needs)
     (λ c. search needs)
-    (λ c. ?returns-2))
+    (λ c. let p = c .before .before in let i = p .before .before .before in let s = i .before .before .before .before in let d = s .set-deadline .ensures in let y = fitting refl (i .if1 .left) in inserting (d .moved y) (set-within d y) (s .before .before .is-expired .ensures) (p .put-within .ensures)))

@@ -1,3 +1,4 @@
+use Rattle.expiring.proofs.Asking.{expired-at, expired-none, expired-never}
 use borrow.Author.Needs.{needs}
 use Rattle.expiring.proofs.expiring.Expiring.is_expired.Statement.{statement}
 use Rattle.expiring.proofs.expiring.Expiring.is_expired.Tie as tie
@@ -11,6 +12,6 @@ is-expired-spec =
     (λ c κs. search needs)
     (λ c. search needs)
     (λ c. search needs)
-    (λ c. ?returns)
-    (λ c. ?returns-2)
-    (λ c. ?returns-3))
+    (λ c. let d = c .before .before in expired-at _ (d .before .before .deadline-of .ensures) (d .d .given .1) (c .is-expired-at .ensures))
+    (λ c. expired-none _ (c .before .before .deadline-of .ensures) (c .enum-told .given .1))
+    (λ c. expired-never _ (c .before .before .deadline-of .ensures) (c .enum-told2 .given .1)))

@@ -1,3 +1,4 @@
+use Rattle.expiring.proofs.Asking.{stored-yes, stored-no, stored-refused}
 use borrow.Author.Needs.{needs}
 use Rattle.expiring.proofs.expiring.Expiring.is_stored.Statement.{statement}
 use Rattle.expiring.proofs.expiring.Expiring.is_stored.Tie as tie
@@ -10,6 +11,6 @@ is-stored-spec =
     (λ c. search needs)
     (λ c. search needs)
     (λ c. search needs)
-    (λ c. ?returns)
-    (λ c. ?returns-2)
-    (λ c. ?returns-3))
+    (λ c. stored-yes (c .before .before .contains .ensures) (c .enum-told .given .1))
+    (λ c. stored-no (c .before .before .contains .ensures) (c .enum-told2 .given .1))
+    (λ c. stored-refused (c .before .before .contains .ensures) (c .enum-told3 .given .1)))

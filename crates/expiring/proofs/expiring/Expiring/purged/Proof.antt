@@ -8,4 +8,4 @@ purged-spec =
     (tie.spec
     (λ c κs. search needs)
     (λ c κs. search needs)
-    (λ c. ?returns))
+    (λ c. rw (c .saturating-sum .ensures, c .before .expired .ensures)))

@@ -1,3 +1,4 @@
+use Rattle.expiring.proofs.Valuing.{putting-in}
 use borrow.Author.Needs.{needs}
 use Rattle.expiring.proofs.expiring.Expiring.put_value.Statement.{statement}
 use Rattle.expiring.proofs.expiring.Expiring.put_value.Tie as tie
@@ -10,4 +11,4 @@ put-value-spec =
     (λ c κs. search needs)
     (λ c κs. search needs)
     (λ c. search needs)
-    (λ c. ?returns))
+    (λ c. rw (c .before .with-list .ensures) (putting-in _ _ _ (c .before .before .before .before .before .insert .ensures) (c .of-found .ensures))))

@@ -1,3 +1,5 @@
+use native.Mathlib.Omega.{arith}
+use Rattle.expiring.proofs.Calling.{removing-expired, removing}
 use borrow.Author.Needs.{needs}
 use Rattle.expiring.proofs.expiring.Expiring.remove_within.Statement.{statement}
 use Rattle.expiring.proofs.expiring.Expiring.remove_within.Tie as tie
@@ -11,7 +13,7 @@ remove-within-spec =
     (λ c κs. search needs)
     (λ c κs. search needs)
     (λ c. search needs)
-    (λ c. ?returns)
+    (λ c. let i = c .before .before in let d = i .before .before .before .before in rw (c .answered .ensures, c .before .expired .ensures) (removing-expired (d .before .before .is-expired .ensures) (d .drop-both .ensures) (i .if1 .taken)))
     (λ c κs. search needs)
     (λ c. search needs)
-    (λ c. ?returns-2))
+    (λ c. let i = c .before in let d = i .before .before .before .before in rw (c .answered2 .ensures) (removing (d .before .before .is-expired .ensures) (d .drop-both .ensures) (omega (arith, d .before .before .before .before .before .good)) (i .if1 .left))))

@@ -1,3 +1,4 @@
+use Rattle.expiring.proofs.Valuing.{dating}
 use borrow.Author.Needs.{needs}
 use Rattle.expiring.proofs.expiring.Expiring.set_deadline.Statement.{statement}
 use Rattle.expiring.proofs.expiring.Expiring.set_deadline.Tie as tie
@@ -16,4 +17,4 @@ set-deadline-spec =
     (λ c κs. search needs)
     (λ c κs. search needs)
     (λ c. search needs)
-    (λ c. ?returns))
+    (λ c. let k = c .before .before .before .before .before in rw (c .before .with-index .ensures) (dating _ _ (k .before .before .before .before .pre) _ _ (k .set-deadline .ensures) (c .is-accepted .ensures))))

@@ -1,3 +1,5 @@
+use mathlib.Core.Path.{refl, sym, ap, _∙_}
+use Rattle.expiring.proofs.Asking.{count-stored, count-refused}
 use borrow.Author.Needs.{needs}
 use Rattle.expiring.proofs.expiring.Expiring.stored_count.Statement.{statement}
 use Rattle.expiring.proofs.expiring.Expiring.stored_count.Tie as tie
@@ -9,5 +11,5 @@ stored-count-spec =
     (λ c κs. search needs)
     (λ c. search needs)
     (λ c. search needs)
-    (λ c. ?returns)
-    (λ c. ?returns-2))
+    (λ c. count-stored (c .before .before .before .len .ensures) (c .before .n .given .1))
+    (λ c. count-refused (c .before .before .len .ensures) (c .enum-told .given .1)))
