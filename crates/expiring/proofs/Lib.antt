@@ -1,2 +1,3 @@
 pub mod Purging
 pub mod Accounts
+pub mod Runs
