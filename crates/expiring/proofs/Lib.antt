@@ -1,3 +1,4 @@
 pub mod Purging
 pub mod Accounts
 pub mod Runs
+pub mod Samples

@@ -4,3 +4,4 @@ pub mod Book
 pub mod Calls
 pub mod Steps
 pub mod Runs
+pub mod Samples
