@@ -77,40 +77,26 @@ refuses-told flag.Yes = refl
 refuses-told flag.No = refl
 refuses-told (flag.Refused why) = refl
 
--- ---- limit and factor stay
-abbrev pub Stays : Heap → Heap → Type 0
-Stays m n = (n .limit ≡ m .limit) × (n .factor ≡ m .factor)
-
-pub stays-popped : (m : Heap) → Stays m (popped m)
+-- ---- the factor stays
+factor-popped : (m : Heap) → popped m .factor ≡ m .factor
 unfolding popped peeked
-stays-popped m = go (fromLive (m .held) (m .entries))
+factor-popped m = go (fromLive (m .held) (m .entries))
   where
-    go : (l : List Entry) → Stays m (poppedFrom l m)
-    go [] = (refl, refl)
-    go (e ∷ l) = (refl, refl)
+    go : (l : List Entry) → poppedFrom l m .factor ≡ m .factor
+    go [] = refl
+    go (e ∷ l) = refl
 
-stays-before : (m : Heap) → Stays m (beforePush m)
-unfolding beforePush renumbered
-stays-before m = go (eqb (m .next) (2 ^ 64 - 1))
+factor-updated : (k s : ℕ) (m : Heap) → updated k s m .factor ≡ m .factor
+unfolding updated maybeRebuilt rebuilt pushed beforePush renumbered
+factor-updated k s m = rebuilds (tooMany (m .factor) (pushed k s (beforePush m))) ∙ numbers (eqb (m .next) (2 ^ 64 - 1))
   where
-    go : (b : Bool) → Stays m (cond b (renumbered m) m)
-    go true = (refl, refl)
-    go false = (refl, refl)
+    numbers : (b : Bool) → cond b (renumbered m) m .factor ≡ m .factor
+    numbers true = refl
+    numbers false = refl
 
-stays-rebuilt : (f : ℕ) (m : Heap) → Stays m (maybeRebuilt f m)
-unfolding maybeRebuilt rebuilt
-stays-rebuilt f m = go (tooMany f m)
-  where
-    go : (b : Bool) → Stays m (cond b (rebuilt m) m)
-    go true = (refl, refl)
-    go false = (refl, refl)
-
-pub stays-updated : (k s : ℕ) (m : Heap) → Stays m (updated k s m)
-unfolding updated pushed
-stays-updated k s m =
-    let r = stays-rebuilt (m .factor) (pushed k s (beforePush m)) in
-    let b = stays-before m in
-    (r .0 ∙ b .0, r .1 ∙ b .1)
+    rebuilds : (b : Bool) → cond b (rebuilt (pushed k s (beforePush m))) (pushed k s (beforePush m)) .factor ≡ beforePush m .factor
+    rebuilds true = refl
+    rebuilds false = refl
 
 index-after : {ws ws′ : List ℕ} {x x′ : ExpirationIndex} {m : Heap} → IsIndex ws x → IsHeap ws′ (x′ .heap) → heapOf ws′ x′ ≡ m → m .factor ≡ x .heap .factor → IsIndex ws′ x′
 index-after is h e f = record { heap = h; factor = ap (λ (m : Heap). m .factor) e ∙ f ∙ is .factor }
@@ -189,6 +175,7 @@ module _ {ws ws′ : List ℕ} {x : ExpirationIndex} where
     heap = λ is. o .model (done is) (is .heap);
     discarded = λ is. o .discarded (done is) (is .heap);
     kept = o .kept;
+    limit = o .capacity;
   }
     where
       done : IsIndex ws x → told ≡ Done
@@ -224,6 +211,7 @@ module _ {ws ws′ : List ℕ} {x : ExpirationIndex} where
     discarded = λ is new. o .discarded (is .heap) (room new);
     word = word;
     kept = o .kept;
+    limit = o .capacity;
   }
     where
       same : ofDeadline a ≡ ofScore (r .answer)
@@ -240,17 +228,15 @@ module _ {ws ws′ : List ℕ} {x : ExpirationIndex} where
 
       by-full : IsIndex ws x → (b : Bool) → lazy.isFull k (heapOf ws x) ≡ b → IsIndex ws′ (record { heap = r .heap })
       by-full is true q = record { heap = o .heap (is .heap); factor = ap (λ (h : LazyMinHeap). h .factor) (o .refused KeyLimitReached (ap ofScore (full is q)) .0) ∙ is .factor }
-      by-full is false q = index-after is (o .heap (is .heap)) (o .model (is .heap) q) (stays-updated k (t .0) (heapOf ws x) .1)
+      by-full is false q = index-after is (o .heap (is .heap)) (o .model (is .heap) q) (factor-updated k (t .0) (heapOf ws x))
 
 -- ---- taking the next deadline
-pub taking : {ws ws′ : List ℕ} {x : ExpirationIndex} {d : ℕ} {r : Bested} → limit x ≡ d → heap.PoppingBest ws (x .heap) ws′ r → Taking ws x d ws′ (record { heap = r .heap })
-taking {ws} {ws′} {x} e o = record {
-  heap = λ q is. let t = o .call .outcome ∙ room-limits (is .heap .parts .room) in (o .call .heap t (is .heap), o .call .model t (is .heap));
-  kept = rw e at (o .call .kept);
+pub taking : {ws ws′ : List ℕ} {x : ExpirationIndex} {r : Bested} → heap.PoppingBest ws (x .heap) ws′ r → Taking ws x ws′ (record { heap = r .heap })
+taking o = record {
+  heap = λ is. let t = o .call .outcome ∙ room-limits (is .heap .parts .room) in (o .call .heap t (is .heap), o .call .model t (is .heap));
+  kept = o .call .kept;
+  limit = o .call .capacity;
 }
-
-pub taking-none : {ws : List ℕ} {x : ExpirationIndex} {d : ℕ} → (limit x ≡ d → ⊥) → Taking ws x d ws x
-taking-none other = record { heap = λ q. absurd (other q); kept = record { size = refl; past = λ j h. refl } }
 
 -- the next due, from the answer that tells it
 due-pair : {k : ℕ} {t : Tick} (l : Pairs) → due.Pair k t ≡ nextDue l → next l ≡ some (record { key = k; deadline = t })
@@ -286,6 +272,7 @@ module _ {ws ws₁ : List ℕ} {x : ExpirationIndex} {n : Looked} (o : NextDeadl
       heap = λ is. o .call .heap is ∙ sym (ap (λ (p : Option Pair). takenIf p (heapOf ws x)) (nothing is));
       discarded = o .call .discarded;
       kept = o .call .kept;
+      limit = o .call .limit;
     };
     answer = λ is. answer is ∙ sym (ap pairIn (nothing is));
   }
@@ -308,17 +295,18 @@ module _ {ws ws₁ : List ℕ} {x : ExpirationIndex} {n : Looked} (o : NextDeadl
     unfolding nextExpired
     popping-later {t} f = left due.Nothing (sym (ap ofDue e)) (λ is. ap (ifExpired t) (found is) ∙ rw f) (λ is. refl)
 
-    pub popping : {t : Tick} {ws′ : List ℕ} {y : ExpirationIndex} → isExpiredAt d t ≡ true → Taking ws₁ (n .index) (limit x) ws′ y → PoppingExpired ws x t ws′ (record { index = y; answer = due.Pair k d; discarded = n .discarded })
-    unfolding poppedExpired withoutExpired expiredDue nextExpired peeked
+    pub popping : {t : Tick} {ws′ : List ℕ} {y : ExpirationIndex} → isExpiredAt d t ≡ true → Taking ws₁ (n .index) ws′ y → PoppingExpired ws x t ws′ (record { index = y; answer = due.Pair k d; discarded = n .discarded })
+    unfolding poppedExpired withoutExpired expiredDue nextExpired
     popping {t} {ws′} {y} f take = record {
       call = record {
         outcome = sym (ap ofDue e) ∙ o .call .outcome;
         refused = λ why q. absurd (refused-done why (sym q));
-        index = λ is. index-after is (taken is .0) (taken-heap is) (stays-popped (heapOf ws x) .1);
+        index = λ is. index-after is (taken is .0) (taken-heap is) (factor-popped (heapOf ws x));
         model = λ is. ap deadlines (taken-heap is) ∙ deadlines-popped (heapOf ws x) (is .heap .valid) ∙ rw (found is, f);
         heap = λ is. taken-heap is ∙ sym (ap (λ (p : Option Pair). takenIf p (heapOf ws x)) (expired is));
         discarded = o .call .discarded;
-        kept = record { size = take .kept .size ∙ o .call .kept .size; past = λ j b. take .kept .past j b ∙ o .call .kept .past j b };
+        kept = record { size = take .kept .size ∙ o .call .kept .size; past = λ j b. take .kept .past j (rw (o .call .limit) b) ∙ o .call .kept .past j b };
+        limit = take .limit ∙ o .call .limit;
       };
       answer = λ is. sym (ap pairIn (expired is));
     }
@@ -327,7 +315,7 @@ module _ {ws ws₁ : List ℕ} {x : ExpirationIndex} {n : Looked} (o : NextDeadl
         expired is = ap (ifExpired t) (found is) ∙ rw f
 
         taken : IsIndex ws x → IsHeap ws′ (y .heap) × (heapOf ws′ y ≡ popped (heapOf ws₁ (n .index)))
-        taken is = take .heap (ap (λ (h : Heap). h .limit) (o .call .heap is)) (o .call .index is)
+        taken is = take .heap (o .call .index is)
 
         taken-heap : IsIndex ws x → heapOf ws′ y ≡ popped (heapOf ws x)
         taken-heap is = taken is .1 ∙ ap popped (o .call .heap is) ∙ popped-peeked (heapOf ws x)

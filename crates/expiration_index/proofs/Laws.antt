@@ -1,6 +1,6 @@
 -- What the layers above cite of an index, with the heap out of sight.
-use mathlib.Core.Path.{_≡_, refl, sym, ap, _∙_, subst}
-use mathlib.Core.Bool.{Bool, true, false}
+use mathlib.Core.Path.{_≡_, sym, ap, _∙_, subst}
+use mathlib.Core.Bool.{false}
 use mathlib.Core.List.{List}
 use mathlib.Core.Option.{Option, none, some}
 use Prim.Native.Nat.{ℕ, _+_, _*_, _<_, _≤_}
@@ -8,25 +8,21 @@ use native.Mathlib.Omega.{arith}
 use lib.ListN.{length, getD, drop, length-drop}
 use lib.Seq.{ext-getD, getD-drop}
 use Rattle.time.specs.declared.tick.Tick.{Tick}
-use Rattle.time.specs.declared.refusal.Refusal.the-variants.{KeyLimitReached}
 use Rattle.time.specs.declared.refusal.Outcome.the-variants.{Done}
 use Rattle.linked_hash_map.proofs.Putting as map
 use Rattle.binary_heap.proofs.Laws as array
 use Rattle.lazy_heap.specs.Words.{wordsFor, part, Kept}
-use Rattle.lazy_heap.specs.Model.{Heap, heapLen, removed, peeked, cleared, updated}
+use Rattle.lazy_heap.specs.Model.{Heap, heapLen, removed, cleared, updated}
 use Rattle.lazy_heap.proofs.Laws as lazy
 use Rattle.expiration_index.specs.declared.index.ExpirationIndex.{ExpirationIndex}
-use Rattle.expiration_index.specs.declared.answers.Deadline.the-variants as deadline
 use Rattle.expiration_index.specs.declared.answers.Cleared.{Cleared}
 use Rattle.expiration_index.specs.declared.answers.Changed.{Changed}
 use Rattle.expiration_index.specs.declared.answers.Looked.{Looked}
 use Rattle.expiration_index.specs.Model.{Pair, Distinct, isFull, nextExpired}
-use Rattle.expiration_index.specs.Answers.{ofDeadline}
 use Rattle.expiration_index.specs.Index.{IsIndex, deadlines, heapOf, modelOf}
 use Rattle.expiration_index.specs.Calls.{limit, limitsIn, Clearing, Removing, NextDeadline, PoppingExpired, poppedExpired, takenIf, Setting}
 use Rattle.expiration_index.proofs.Pairs.{distinct-pairs, deadlines-length, full-deadlines}
 use Rattle.expiration_index.proofs.Nexts.{best-taken}
-use Rattle.expiration_index.proofs.Calling.{stays-popped, stays-updated}
 
 -- the numbers tell how many deadlines and entries there are
 pub model-length : (ws : List ℕ) (x : ExpirationIndex) → length (modelOf ws x) ≡ x .heap .scores .len
@@ -74,41 +70,6 @@ kept-drop d ws ws′ k =
     ext-getD 0 (drop (wordsFor d) ws′) (drop (wordsFor d) ws)
     (simp length-drop (omega (arith, k .size)))
     (λ i h. getD-drop (wordsFor d) ws′ i 0 ∙ k .past (wordsFor d + i) (omega arith) ∙ sym (getD-drop (wordsFor d) ws i 0))
-
--- ---- the key limit stays
-abbrev limitOf : Heap → ℕ
-limitOf m = m .limit
-
-module _ {ws ws′ : List ℕ} {x : ExpirationIndex} (is : IsIndex ws x) where
-  pub clearing-limit : {r : Cleared} → Clearing ws x ws′ r → limit (r .index) ≡ limit x
-  unfolding cleared
-  clearing-limit o = ap limitOf (o .heap is)
-
-  pub removing-limit : {k : ℕ} {r : Changed} → Removing ws x k ws′ r → limit (r .index) ≡ limit x
-  unfolding removed
-  removing-limit o = ap limitOf (o .call .heap is)
-
-  pub next-limit : {r : Looked} → NextDeadline ws x ws′ r → limit (r .index) ≡ limit x
-  unfolding peeked
-  next-limit o = ap limitOf (o .call .heap is)
-
-  pub popping-limit : {t : Tick} {r : Looked} → PoppingExpired ws x t ws′ r → limit (r .index) ≡ limit x
-  unfolding poppedExpired peeked
-  popping-limit {t} o = ap limitOf (o .call .heap is) ∙ go (nextExpired t (modelOf ws x))
-    where
-      go : (p : Option Pair) → takenIf p (heapOf ws x) .limit ≡ limit x
-      go none = refl
-      go (some p) = stays-popped (heapOf ws x) .0
-
-  pub setting-limit : {k : ℕ} {t : Tick} {r : Changed} → Setting ws x k t ws′ r → limit (r .index) ≡ limit x
-  setting-limit {k} {t} {r} o = go (isFull (limit x) k (modelOf ws x)) refl
-    where
-      full : isFull (limit x) k (modelOf ws x) ≡ true → r .answer ≡ deadline.Refused KeyLimitReached
-      full q = o .answer is ∙ rw q
-
-      go : (b : Bool) → isFull (limit x) k (modelOf ws x) ≡ b → limit (r .index) ≡ limit x
-      go true q = ap limit (o .refused KeyLimitReached (ap ofDeadline (full q)) .0)
-      go false q = ap limitOf (o .heap is q) ∙ stays-updated k (t .0) (heapOf ws x) .0
 
 -- ---- entries discarded and entries left are the entries that were, and one more for a setting
 module _ {ws ws′ : List ℕ} {x : ExpirationIndex} (is : IsIndex ws x) where

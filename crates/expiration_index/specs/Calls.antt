@@ -102,6 +102,7 @@ pub record Call (ws : List ℕ) (x : ExpirationIndex) (told : Outcome) (after : 
   pub heap : IsIndex ws x → heapOf ws′ x′ ≡ next (heapOf ws x)
   pub discarded : IsIndex ws x → d ≡ count (heapOf ws x)
   pub kept : Kept (limit x) ws ws′
+  pub limit : limit x′ ≡ limit x
 
 -- `clear`
 abbrev emptied : Pairs → Pairs
@@ -147,9 +148,11 @@ pub record Setting (ws : List ℕ) (x : ExpirationIndex) (k : ℕ) (t : Tick) (w
   -- the next sequence number is a word, as any number handed in
   pub word : x .heap .seq < 2 ^ 64
   pub kept : Kept (limit x) ws ws′
+  pub limit : limit (r .index) ≡ limit x
 
 -- ---- a step
--- `take_next`, on an index for d keys
-pub record Taking (ws : List ℕ) (x : ExpirationIndex) (d : ℕ) (ws′ : List ℕ) (r : ExpirationIndex) : Type 0 where
-  pub heap : limit x ≡ d → IsIndex ws x → (IsHeap ws′ (r .heap)) × (heapOf ws′ r ≡ popped (heapOf ws x))
-  pub kept : Kept d ws ws′
+-- `take_next`
+pub record Taking (ws : List ℕ) (x : ExpirationIndex) (ws′ : List ℕ) (r : ExpirationIndex) : Type 0 where
+  pub heap : IsIndex ws x → (IsHeap ws′ (r .heap)) × (heapOf ws′ r ≡ popped (heapOf ws x))
+  pub kept : Kept (limit x) ws ws′
+  pub limit : limit r ≡ limit x

@@ -194,7 +194,7 @@ impl ExpirationIndex {
             Due::Pair(_, deadline) => {
                 if deadline.is_expired_at(tick) {
                     return Looked {
-                        index: index.take_next(words, self.heap.scores.capacity),
+                        index: index.take_next(words),
                         answer: due,
                         discarded: next.discarded,
                     };
@@ -229,17 +229,13 @@ impl ExpirationIndex {
         false
     }
 
-    // Takes the next deadline out. On words that are no index the limit may not be the caller's any more: then nothing is
-    // taken, so that no word past the caller's own is touched.
-    fn take_next(self, words: &mut [u64], limit: usize) -> ExpirationIndex
-        ensures { λ r. ⌜ Taking (now (words .entry)) self limit (now (words .exit)) r ⌝ }
+    // Takes the next deadline out.
+    fn take_next(self, words: &mut [u64]) -> ExpirationIndex
+        ensures { λ r. ⌜ Taking (now (words .entry)) self (now (words .exit)) r ⌝ }
     {
         let heap = self.heap;
-        if heap.scores.capacity == limit {
-            let popped = heap.pop_best(words);
-            let rest = popped.heap;
-            return ExpirationIndex { heap: rest };
-        }
-        self
+        let popped = heap.pop_best(words);
+        let rest = popped.heap;
+        ExpirationIndex { heap: rest }
     }
 }

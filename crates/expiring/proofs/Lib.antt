@@ -1,3 +1,7 @@
+pub mod Frames
+pub mod Limits
+pub mod Moving
+pub mod Acting
 pub mod Purging
 pub mod Accounts
 pub mod Runs

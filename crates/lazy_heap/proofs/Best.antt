@@ -8,7 +8,6 @@ use Rattle.binary_heap.specs.declared.entries.Entry.{Entry}
 use Rattle.binary_heap.specs.declared.heap.Top.{Top}
 use Rattle.binary_heap.specs.declared.heap.Top.the-variants as top
 use Rattle.binary_heap.specs.Heap.{first, rest}
-use Rattle.linked_hash_map.specs.declared.map.LinkedHashMap.{LinkedHashMap}
 use Rattle.linked_hash_map.specs.declared.map.Removed.{Removed}
 use Rattle.linked_hash_map.specs.Calls as scores
 use Rattle.time.specs.declared.refusal.Outcome.the-variants.{Done}
@@ -24,7 +23,7 @@ use Rattle.lazy_heap.specs.Heap.{heldOf, entriesOf, modelOf, Parts, IsHe
 use Rattle.lazy_heap.specs.Steps.{bestOf, Discarding, Peeking, Popping}
 use Rattle.lazy_heap.specs.Calls.{PeekingBest, PoppingBest}
 use Rattle.lazy_heap.proofs.Valid.{valid-popped, from-length}
-use Rattle.lazy_heap.proofs.Stepping.{same-heap}
+use Rattle.lazy_heap.proofs.Stepping.{same-heap, same-capacity}
 use Rattle.lazy_heap.proofs.Calling.{call-done, Fair, fair-heap, fair-peeked, heap-again, remove-parts, remove-model, remove-kept}
 
 first-best : (l : List Entry) → bestOf (first l) ≡ bestIn l
@@ -61,21 +60,21 @@ module _ {ws ws₁ : List ℕ} {h : LazyMinHeap} {s : Step} {t : Top} (d : Disca
 
   peek-model : Parts ws h → modelOf ws₁ (s .heap) ≡ peeked (modelOf ws h)
   unfolding peeked
-  peek-model p = same-heap (ap (λ (m : LinkedHashMap). m .capacity) (d .entered .scores)) (d .entered .factor) (d .entered .seq) (d .entered .held p) (d .entries p)
+  peek-model p = same-heap (same-capacity (d .entered .scores)) (d .entered .factor) (d .entered .seq) (d .entered .held p) (d .entries p)
 
   told : Parts ws h → t ≡ first from
   told p = k .answer (d .parts p) ∙ ap first (d .entries p)
 
   pub peeking-best : {a : Best} → a ≡ bestOf t → PeekingBest ws h ws₁ (record { heap = s .heap; answer = a; discarded = s .discarded })
   peeking-best e = record {
-    call = call-done (ap ofBest e ∙ best-accepted t) ok (λ is. heap-again (d .parts (is .parts)) (peek-model (is .parts)) (fair-peeked (fair-heap is))) (λ is. peek-model (is .parts)) (λ is. d .discarded (is .parts)) (d .entered .kept);
+    call = call-done (ap ofBest e ∙ best-accepted t) ok (λ is. heap-again (d .parts (is .parts)) (peek-model (is .parts)) (fair-peeked (fair-heap is))) (λ is. peek-model (is .parts)) (λ is. d .discarded (is .parts)) (same-capacity (d .entered .scores)) (d .entered .kept);
     answer = λ is. e ∙ ap bestOf (told (is .parts)) ∙ first-best from;
   }
 
   pub popping-none : t ≡ top.Nothing → PoppingBest ws h ws₁ (record { heap = s .heap; answer = best.Nothing; discarded = s .discarded })
   unfolding popped
   popping-none e = record {
-    call = call-done refl ok (λ is. heap-again (d .parts (is .parts)) (model is) (fair-popped (fair-heap is))) model (λ is. d .discarded (is .parts)) (d .entered .kept);
+    call = call-done refl ok (λ is. heap-again (d .parts (is .parts)) (model is) (fair-popped (fair-heap is))) model (λ is. d .discarded (is .parts)) (same-capacity (d .entered .scores)) (d .entered .kept);
     answer = λ is. sym (ap bestIn (none is));
   }
     where
@@ -93,7 +92,7 @@ module _ {ws ws₁ : List ℕ} {h : LazyMinHeap} {s : Step} {t : Top} (d : Disca
     shorter = record { limit = h .scores .capacity; factor = h .factor; next = h .seq; held = heldOf ws h; entries = rest from }
 
     capacity-same : h₂ .scores .capacity ≡ h .scores .capacity
-    capacity-same = ap (λ (m : LinkedHashMap). m .capacity) (pop .entered .scores ∙ d .entered .scores)
+    capacity-same = same-capacity (pop .entered .scores ∙ d .entered .scores)
 
     pop-model : Parts ws h → modelOf ws₂ h₂ ≡ shorter
     pop-model p =
@@ -107,7 +106,7 @@ module _ {ws ws₁ : List ℕ} {h : LazyMinHeap} {s : Step} {t : Top} (d : Disca
     pub popping-best : t ≡ top.Entry e → PoppingBest ws h ws′ (record { heap = left; answer = best.Pair (e .key) (e .score); discarded = s .discarded })
     unfolding popped removed
     popping-best q = record {
-      call = call-done refl ok (λ is. heap-again (remove-parts h₂ (e .key) out (pop .parts (d .parts (is .parts)))) (model is) (fair-popped (fair-heap is))) model (λ is. d .discarded (is .parts)) kept;
+      call = call-done refl ok (λ is. heap-again (remove-parts h₂ (e .key) out (pop .parts (d .parts (is .parts)))) (model is) (fair-popped (fair-heap is))) model (λ is. d .discarded (is .parts)) (out .capacity ∙ capacity-same) kept;
       answer = λ is. sym (ap bestIn (some is));
     }
       where
@@ -125,5 +124,5 @@ module _ {ws ws₁ : List ℕ} {h : LazyMinHeap} {s : Step} {t : Top} (d : Disca
             let k = remove-kept h₂ (e .key) out in
             record {
               size = k .size ∙ pop .entered .kept .size ∙ d .entered .kept .size;
-              past = λ j b. k .past j (rw capacity-same b) ∙ pop .entered .kept .past j (rw (ap (λ (m : LinkedHashMap). m .capacity) (d .entered .scores)) b) ∙ d .entered .kept .past j b;
+              past = λ j b. k .past j (rw capacity-same b) ∙ pop .entered .kept .past j (rw (same-capacity (d .entered .scores)) b) ∙ d .entered .kept .past j b;
             }

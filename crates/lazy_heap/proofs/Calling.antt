@@ -33,7 +33,7 @@ use Rattle.lazy_heap.specs.Steps.{Rebuilding, Renumbering, Trimming}
 use Rattle.lazy_heap.specs.Calls.{Call, Opening, Removing, noHeap, nothing, maybeDiscards}
 use Rattle.lazy_heap.proofs.Parts.{part-same}
 use Rattle.lazy_heap.proofs.Valid.{valid-opened, valid-rebuilt, valid-renumbered, valid-removed, valid-cleared, valid-peeked, live-length, numbered-length, from-length}
-use Rattle.lazy_heap.proofs.Stepping.{same-heap, surplus-is, kept-same, rebuilt-model}
+use Rattle.lazy_heap.proofs.Stepping.{same-heap, same-capacity, surplus-is, kept-same, rebuilt-model}
 
 -- ---- refusals
 pub refused-done : (why : Refusal) → _≡_ {A = Outcome} (Refused why) Done → ⊥
@@ -83,16 +83,18 @@ module _ {ws : List ℕ} {h : LazyMinHeap} {cause : Outcome} {next : Heap → He
     heap = λ t. absurd (refused-done why t);
     model = λ t. absurd (refused-done why t);
     discarded = λ t. absurd (refused-done why t);
+    capacity = refl;
     kept = kept-same (h .scores .capacity) ws;
   }
 
-  pub call-done : {told : Outcome} {ws′ : List ℕ} {h′ : LazyMinHeap} {d : ℕ} → told ≡ Done → cause ≡ Done → (IsHeap ws h → IsHeap ws′ h′) → (IsHeap ws h → modelOf ws′ h′ ≡ next (modelOf ws h)) → (IsHeap ws h → d ≡ count (modelOf ws h)) → Kept (h .scores .capacity) ws ws′ → Call ws h cause told next count ws′ h′ d
-  call-done t e heap model discarded kept = record {
+  pub call-done : {told : Outcome} {ws′ : List ℕ} {h′ : LazyMinHeap} {d : ℕ} → told ≡ Done → cause ≡ Done → (IsHeap ws h → IsHeap ws′ h′) → (IsHeap ws h → modelOf ws′ h′ ≡ next (modelOf ws h)) → (IsHeap ws h → d ≡ count (modelOf ws h)) → h′ .scores .capacity ≡ h .scores .capacity → Kept (h .scores .capacity) ws ws′ → Call ws h cause told next count ws′ h′ d
+  call-done t e heap model discarded capacity kept = record {
     outcome = t ∙ sym e;
     refused = λ why q. absurd (refused-done why (sym q ∙ t));
     heap = λ u. heap;
     model = λ u. model;
     discarded = λ u. discarded;
+    capacity = capacity;
     kept = kept;
   }
 
@@ -160,10 +162,10 @@ fair-peeked {m} f = record { valid = valid-peeked m (f .valid); few = omega (ari
 -- ---- all entries at once
 module _ {ws ws′ : List ℕ} {h r : LazyMinHeap} (t : limitsOf (h .scores .capacity) (length ws) ≡ Done) where
   pub rebuild-call : {d : ℕ} → Rebuilding ws h ws′ r → d ≡ h .entries - h .scores .len → Call ws h (limitsOf (h .scores .capacity) (length ws)) Done rebuilt surplus ws′ r d
-  rebuild-call k d = call-done refl t (λ is. heap-again (k .parts (is .parts)) (rebuilt-model k (is .parts)) (fair-rebuilt (fair-heap is))) (λ is. rebuilt-model k (is .parts)) (λ is. d ∙ sym (surplus-is ws h)) (k .entered .kept)
+  rebuild-call k d = call-done refl t (λ is. heap-again (k .parts (is .parts)) (rebuilt-model k (is .parts)) (fair-rebuilt (fair-heap is))) (λ is. rebuilt-model k (is .parts)) (λ is. d ∙ sym (surplus-is ws h)) (same-capacity (k .entered .scores)) (k .entered .kept)
 
   pub renumber-call : {d : ℕ} → Renumbering ws h ws′ r → d ≡ h .entries - h .scores .len → Call ws h (limitsOf (h .scores .capacity) (length ws)) Done renumbered surplus ws′ r d
-  renumber-call k d = call-done refl t (λ is. heap-again (k .parts (is .parts)) (k .model (is .parts)) (fair-renumbered (fair-heap is))) (λ is. k .model (is .parts)) (λ is. d ∙ sym (surplus-is ws h)) (k .kept)
+  renumber-call k d = call-done refl t (λ is. heap-again (k .parts (is .parts)) (k .model (is .parts)) (fair-renumbered (fair-heap is))) (λ is. k .model (is .parts)) (λ is. d ∙ sym (surplus-is ws h)) (same-capacity (k .scores)) (k .kept)
 
 -- ---- the factor
 module _ (ws : List ℕ) (h : LazyMinHeap) where
@@ -180,7 +182,7 @@ module _ (ws : List ℕ) (h : LazyMinHeap) where
 
   pub factor-call : (f : ℕ) {g : ℕ} → limitsWith (h .scores .capacity) (length ws) f ≡ Done → g ≡ atLeastOne f → Call ws h (limitsWith (h .scores .capacity) (length ws) f) Done (withFactor f) nothing ws (reset g) 0
   unfolding withFactor
-  factor-call f {g} t e = call-done refl t (λ is. heap-again (same-parts is) model (fair-factor f (fair-heap is) (with-room (h .scores .capacity) (length ws) f t .1))) (λ is. model) (λ is. refl) (kept-same (h .scores .capacity) ws)
+  factor-call f {g} t e = call-done refl t (λ is. heap-again (same-parts is) model (fair-factor f (fair-heap is) (with-room (h .scores .capacity) (length ws) f t .1))) (λ is. model) (λ is. refl) refl (kept-same (h .scores .capacity) ws)
     where
       same-parts : IsHeap ws h → Parts ws (reset g)
       same-parts is = record { room = is .parts .room; scores = is .parts .scores; entries = is .parts .entries }
@@ -192,7 +194,7 @@ module _ (ws : List ℕ) (h : LazyMinHeap) where
 pub maybe-call : {ws ws′ : List ℕ} {h : LazyMinHeap} (f : ℕ) {r : Step} → limitsWith (h .scores .capacity) (length ws) f ≡ Done → Trimming ws h f ws′ r → Call ws h (limitsWith (h .scores .capacity) (length ws) f) Done (maybeRebuilt f) (maybeDiscards f) ws′ (r .heap) (r .discarded)
 maybe-call {ws} {ws′} {h} f {r} t k =
     let b = with-room (h .scores .capacity) (length ws) f t .1 in
-    call-done refl t (λ is. heap-again (k .parts (is .parts)) (k .model (is .parts) b) (fair-maybe-rebuilt f (fair-heap is))) (λ is. k .model (is .parts) b) (λ is. k .discarded (is .parts) b) (k .kept)
+    call-done refl t (λ is. heap-again (k .parts (is .parts)) (k .model (is .parts) b) (fair-maybe-rebuilt f (fair-heap is))) (λ is. k .model (is .parts) b) (λ is. k .discarded (is .parts) b) (same-capacity (k .scores)) (k .kept)
 
 -- ---- opening and clearing
 fits : {n l : ℕ} → Room l n → fit n l ≡ true
@@ -245,7 +247,7 @@ module _ {ws ws′ : List ℕ} (h : LazyMinHeap) {r : mapOpened.Opened} (t : lim
   pub clear-call : {d : ℕ} → d ≡ h .entries - h .scores .len → Call ws h (limitsOf (h .scores .capacity) (length ws)) Done cleared surplus ws′ emptied d
   unfolding cleared
   clear-call d =
-      call-done refl t (λ is. heap-again parts model (fair-cleared (fair-heap is))) (λ is. model) (λ is. d ∙ sym (surplus-is ws h))
+      call-done refl t (λ is. heap-again parts model (fair-cleared (fair-heap is))) (λ is. model) (λ is. d ∙ sym (surplus-is ws h)) (o .capacity)
       (record { size = o .kept .size; past = λ j b. o .kept .past j (omega arith) })
     where
       room : Room (length ws) (h .scores .capacity)
@@ -287,7 +289,7 @@ module _ {ws ws′ : List ℕ} (h : LazyMinHeap) (k : ℕ) {r : Removed} (o : sc
   remove-kept = record { size = o .kept .size; past = λ j b. o .kept .past j (omega arith) }
 
   pub remove-call : {told : Outcome} → told ≡ Done → limitsOf (h .scores .capacity) (length ws) ≡ Done → Call ws h (limitsOf (h .scores .capacity) (length ws)) told (removed k) nothing ws′ without-key 0
-  remove-call u t = call-done u t (λ is. heap-again (remove-parts (is .parts)) (remove-model (is .parts)) (fair-removed k (fair-heap is))) (λ is. remove-model (is .parts)) (λ is. refl) remove-kept
+  remove-call u t = call-done u t (λ is. heap-again (remove-parts (is .parts)) (remove-model (is .parts)) (fair-removed k (fair-heap is))) (λ is. remove-model (is .parts)) (λ is. refl) (o .capacity) remove-kept
 
   pub removing : {a : Score} → a ≡ heldScore (r .answer) → Room (length ws) (h .scores .capacity) → Removing ws h k ws′ (record { heap = without-key; answer = a; discarded = 0 })
   removing e room = record {

@@ -44,6 +44,9 @@ of l f n h e = record { limit = l; factor = f; next = n; held = h; entries = e }
 pub same-heap : {l l′ f f′ n n′ : ℕ} {h h′ : List Record} {e e′ : List Entry} → l ≡ l′ → f ≡ f′ → n ≡ n′ → h ≡ h′ → e ≡ e′ → of l f n h e ≡ of l′ f′ n′ h′ e′
 same-heap a b c d e = cc
 
+pub same-capacity : {m n : LinkedHashMap} → m ≡ n → m .capacity ≡ n .capacity
+same-capacity e = ap (λ (m : LinkedHashMap). m .capacity) e
+
 -- ---- rebuilding
 abbrev emptied : LazyMinHeap → LazyMinHeap
 emptied h = record { scores = h .scores; entries = 0; seq = h .seq; factor = h .factor }
@@ -94,7 +97,7 @@ renumbering {ws} {ws₁} {ws′} {h} {r} {s} n b = record {
   parts = λ p. b .parts (parts-numbered n s p);
   model = λ p.
       let q = parts-numbered n s p in
-      let a : r .scores .capacity ≡ h .scores .capacity = ap (λ (m : LinkedHashMap). m .capacity) (b .entered .scores) in
+      let a : r .scores .capacity ≡ h .scores .capacity = same-capacity (b .entered .scores) in
       let c : r .seq ≡ length (heldOf ws h) = b .entered .seq ∙ n .number ∙ sym (model-length ws (h .scores)) in
       let d : heldOf ws′ r ≡ numbered (heldOf ws h) = b .entered .held q ∙ n .held (p .scores) in
       let e : entriesOf ws′ r ≡ liveEntries (numbered (heldOf ws h)) = b .entries q ∙ ap liveEntries (n .held (p .scores)) in
@@ -107,7 +110,7 @@ renumbering {ws} {ws₁} {ws′} {h} {r} {s} n b = record {
 
 pub rebuilt-model : {ws ws′ : List ℕ} {h r : LazyMinHeap} → Rebuilding ws h ws′ r → Parts ws h → modelOf ws′ r ≡ rebuilt (modelOf ws h)
 unfolding rebuilt
-rebuilt-model k p = same-heap (ap (λ (m : LinkedHashMap). m .capacity) (k .entered .scores)) (k .entered .factor) (k .entered .seq) (k .entered .held p) (k .entries p)
+rebuilt-model k p = same-heap (same-capacity (k .entered .scores)) (k .entered .factor) (k .entered .seq) (k .entered .held p) (k .entries p)
 
 -- ---- a number, and entries, made to fit
 pub surplus-is : (ws : List ℕ) (h : LazyMinHeap) → surplus (modelOf ws h) ≡ h .entries - h .scores .len
@@ -123,7 +126,7 @@ pub fitting-renumbered : {ws ws′ : List ℕ} {h r : LazyMinHeap} {d : ℕ} →
 unfolding beforePush
 fitting-renumbered {ws} {ws′} {h} e n d = record {
   word = omega arith;
-  capacity = ap (λ (m : LinkedHashMap). m .capacity) (n .scores);
+  capacity = same-capacity (n .scores);
   parts = n .parts;
   model = λ p. n .model p ∙ sym (rw (eq-eqb (h .seq) (2 ^ 64 - 1) e));
   discarded = λ p. d ∙ sym (rw (eq-eqb (h .seq) (2 ^ 64 - 1) e) (surplus-is ws h));
@@ -235,12 +238,12 @@ module _ {ws ws₁ ws′ : List ℕ} {h r : LazyMinHeap} {k s : ℕ} (p : Put) (
   pub holding : {a : Score} → a ≡ replacedScore (p .answer) → Holding ws h k s ws′ (record { heap = r; answer = a })
   unfolding pushed
   holding {a} e = record {
-    capacity = ap (λ (m : LinkedHashMap). m .capacity) (push .entered .scores) ∙ put .capacity;
+    capacity = same-capacity (push .entered .scores) ∙ put .capacity;
     factor = push .entered .factor;
     parts = λ q g. push .parts (parts-put q) (few-put g);
     model = λ q g f b.
         same-heap
-        (ap (λ (m : LinkedHashMap). m .capacity) (push .entered .scores) ∙ put .capacity)
+        (same-capacity (push .entered .scores) ∙ put .capacity)
         (push .entered .factor)
         (push .entered .seq ∙ after-next (h .seq) b)
         (push .entered .held (parts-put q) ∙ held-put q f)

@@ -34,7 +34,7 @@ use Rattle.lazy_heap.specs.Steps.{Filling, Adding, Fitting, Holding, Tri
 use Rattle.lazy_heap.specs.Calls.{Updating}
 use Rattle.lazy_heap.proofs.Helds.{length-without-le}
 use Rattle.lazy_heap.proofs.Valid.{valid-rebuilt, valid-pushed, live-length, numbered-length, numbered-has}
-use Rattle.lazy_heap.proofs.Stepping.{kept-same}
+use Rattle.lazy_heap.proofs.Stepping.{same-capacity, kept-same}
 use Rattle.lazy_heap.proofs.Calling.{refused-done, no-heap, Fair, fair-heap, fair-renumbered, heap-again}
 
 -- ---- as many keys held as the limit allows
@@ -232,6 +232,7 @@ module _ {ws ws₁ ws₂ ws′ : List ℕ} {h : LazyMinHeap} {k s : ℕ} {a : St
     heap = λ is. heap₃ is (sym (room .answer (is .parts)));
     model = λ is new. third-is is new;
     discarded = λ is new. discarded₃ is new add;
+    capacity = same-capacity (trim .scores) ∙ hold .capacity ∙ fit .capacity;
     kept = record {
       size = trim .kept .size ∙ hold .kept .size ∙ fit .kept .size;
       past = λ j g. trim .kept .past j (rw (hold .capacity) (rw (fit .capacity) g)) ∙ hold .kept .past j (rw (fit .capacity) g) ∙ fit .kept .past j g;
@@ -247,6 +248,7 @@ updating-refused {ws} {h} e = record {
   heap = λ is. is;
   model = λ is. absurd (no-heap e is);
   discarded = λ is. absurd (no-heap e is);
+  capacity = refl;
   kept = kept-same (h .scores .capacity) ws;
 }
 
@@ -258,5 +260,6 @@ updating-full {ws} {h} {k} {s} full t = record {
   heap = λ is. is;
   model = λ is new. absurd (true≢false (full .answer (is .parts) ∙ new));
   discarded = λ is new. absurd (true≢false (full .answer (is .parts) ∙ new));
+  capacity = refl;
   kept = kept-same (h .scores .capacity) ws;
 }

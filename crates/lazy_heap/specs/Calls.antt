@@ -44,14 +44,15 @@ pub record Opening (ws : List ℕ) (n f s : ℕ) (ws′ : List ℕ) (r : Opened)
   pub model : r .outcome ≡ Done → modelOf ws′ (r .heap) ≡ opened n f s
   pub kept : Kept n ws ws′
 
--- what all calls that hand numbers back have in common: they refuse under the cause alone, a refusal changes nothing, and
--- on a heap the next model and the discarded count are those of a definition
+-- what all calls that hand numbers back have in common: they refuse under the cause alone, a refusal changes nothing, on
+-- a heap the next model and the discarded count are those of a definition, and on any words and numbers the key limit stays
 pub record Call (ws : List ℕ) (h : LazyMinHeap) (cause told : Outcome) (next : Heap → Heap) (count : Heap → ℕ) (ws′ : List ℕ) (h′ : LazyMinHeap) (d : ℕ) : Type 0 where
   pub outcome : told ≡ cause
   pub refused : (why : Refusal) → told ≡ Refused why → (h′ ≡ h) × (d ≡ 0) × (ws′ ≡ ws)
   pub heap : told ≡ Done → IsHeap ws h → IsHeap ws′ h′
   pub model : told ≡ Done → IsHeap ws h → modelOf ws′ h′ ≡ next (modelOf ws h)
   pub discarded : told ≡ Done → IsHeap ws h → d ≡ count (modelOf ws h)
+  pub capacity : h′ .scores .capacity ≡ h .scores .capacity
   pub kept : Kept (h .scores .capacity) ws ws′
 
 -- nothing discarded
@@ -129,6 +130,7 @@ pub record Updating (ws : List ℕ) (h : LazyMinHeap) (k s : ℕ) (ws′ : List 
   pub heap : IsHeap ws h → IsHeap ws′ (r .heap)
   pub model : IsHeap ws h → isFull k (modelOf ws h) ≡ false → modelOf ws′ (r .heap) ≡ updated k s (modelOf ws h)
   pub discarded : IsHeap ws h → isFull k (modelOf ws h) ≡ false → r .discarded ≡ updateDiscards k s (modelOf ws h)
+  pub capacity : r .heap .scores .capacity ≡ h .scores .capacity
   pub kept : Kept (h .scores .capacity) ws ws′
 
 -- `check`: yes exactly for a heap

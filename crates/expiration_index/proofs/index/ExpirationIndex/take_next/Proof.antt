@@ -1,5 +1,5 @@
 use borrow.Author.Needs.{needs}
-use Rattle.expiration_index.proofs.Calling.{taking, taking-none}
+use Rattle.expiration_index.proofs.Calling.{taking}
 use Rattle.expiration_index.proofs.index.ExpirationIndex.take_next.Statement.{statement}
 use Rattle.expiration_index.proofs.index.ExpirationIndex.take_next.Tie as tie
 
@@ -9,5 +9,4 @@ take-next-spec =
     (tie.spec
     (λ c κs. search needs)
     (λ c. search needs)
-    (λ c. taking (c .before .before .before .before .before .if1 .taken) (c .before .before .before .pop-best .ensures))
-    (λ c. taking-none (c .if1 .left)))
+    (λ c. taking (c .before .before .before .pop-best .ensures)))

@@ -1,0 +1,18 @@
+use borrow.Author.Needs.{needs}
+use Rattle.expiring.proofs.expiring.Expiring.drop_deadline.Statement.{statement}
+use Rattle.expiring.proofs.expiring.Expiring.drop_deadline.Tie as tie
+
+pub drop-deadline-spec : {M : Type 1} → statement M
+drop-deadline-spec =
+    tie.close
+    (tie.spec
+    (λ c. search needs)
+    (λ c. search needs)
+    (λ c. search needs)
+    (λ c. search needs)
+    (λ c. search needs)
+    (λ c. search needs)
+    (λ c κs. search needs)
+    (λ c κs. search needs)
+    (λ c. search needs)
+    (λ c. ?returns))

@@ -1,0 +1,14 @@
+use borrow.Author.Needs.{needs}
+use Rattle.expiring.proofs.expiring.Expiring.put_within.Statement.{statement}
+use Rattle.expiring.proofs.expiring.Expiring.put_within.Tie as tie
+
+pub put-within-spec : {M : Type 1} → statement M
+put-within-spec =
+    tie.close
+    (tie.spec
+    (λ c κs. search needs)
+    (λ c κs. search needs)
+    (λ c. search needs)
+    (λ c. ?returns)
+    (λ c. search needs)
+    (λ c. ?returns-2))
