@@ -6,3 +6,7 @@ pub mod Acting
 pub mod Valuing
 pub mod Calling
 pub mod Following
+pub mod Purging
+pub mod Accounts
+pub mod Runs
+pub mod Samples
