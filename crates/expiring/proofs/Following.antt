@@ -16,7 +16,7 @@ use Rattle.time.specs.declared.duration.TtlTicks.{TtlTicks}
 use Rattle.time.specs.declared.duration.Ticked.{Ticked}
 use Rattle.time.specs.declared.duration.Ticked.the-variants as ticked
 use Rattle.time.specs.declared.refusal.Refusal.{Refusal}
-use Rattle.time.specs.declared.refusal.Refusal.the-variants.{InvalidNanos}
+use Rattle.time.specs.declared.refusal.Refusal.the-variants.{InvalidNanos, KeyLimitReached}
 use Rattle.time.specs.declared.refusal.Outcome.the-variants.{Done}
 use Rattle.time.specs.Duration.{isZero, isDuration, millisOf, ticksOf}
 use Rattle.time.specs.Deadline.{deadlineFrom, remainingAt}
@@ -37,7 +37,9 @@ use Rattle.fast_lru.specs.Model as list
 use Rattle.fast_lru.specs.Calls as lru
 use Rattle.fast_lru.proofs.Laws.{list-admitted}
 use Rattle.expiration_index.specs.declared.answers.Deadline.{Deadline}
+use Rattle.expiration_index.specs.declared.answers.Deadline.the-variants as deadline
 use Rattle.expiration_index.specs.declared.answers.Due.{Due}
+use Rattle.expiration_index.specs.declared.answers.Due.the-variants as due
 use Rattle.expiration_index.specs.declared.answers.Looked.{Looked}
 use Rattle.expiration_index.specs.Model.{Pair, Pairs, next, nextDue, pairIn, deadlineIn, deadlineOf, expiredCount}
 use Rattle.expiration_index.specs.Model as pairs
@@ -93,6 +95,42 @@ and-false : (x : Bool) → (x && false) ≡ false
 and-false true = refl
 and-false false = refl
 
+rank-accepted : (x : Rank) → Accepted (rankIn x)
+rank-accepted (rank.At n) why e = let z : _≡_ {A = ℕ} 0 1 = cc in omega arith
+rank-accepted rank.Nothing why e = let z : _≡_ {A = ℕ} 0 1 = cc in omega arith
+rank-accepted (rank.Refused w) why e = let z : _≡_ {A = ℕ} 0 1 = cc in omega arith
+
+oldest-accepted : (x : Oldest) → Accepted (ofOldest x)
+oldest-accepted (oldest.Item k v) why e = let z : _≡_ {A = ℕ} 0 1 = cc in omega arith
+oldest-accepted oldest.Nothing why e = let z : _≡_ {A = ℕ} 0 1 = cc in omega arith
+oldest-accepted (oldest.Refused w) why e = let z : _≡_ {A = ℕ} 0 1 = cc in omega arith
+
+oldest-in : (x : Option Item) → ofOldest (list.itemIn x) ≡ itemIn x
+oldest-in none = refl
+oldest-in (some i) = refl
+
+due-accepted : (x : Due) → Accepted (ofDue x)
+due-accepted (due.Pair k d) why e = let z : _≡_ {A = ℕ} 0 1 = cc in omega arith
+due-accepted due.Nothing why e = let z : _≡_ {A = ℕ} 0 1 = cc in omega arith
+due-accepted (due.Refused w) why e = let z : _≡_ {A = ℕ} 0 1 = cc in omega arith
+
+due-in : (x : Option Pair) → ofDue (pairIn x) ≡ dueIn x
+due-in none = refl
+due-in (some p) = refl
+
+lives-accepted : (d : Tick) (x : Remaining) → Accepted (livesAt d x)
+lives-accepted d remaining.Expired why e = let z : _≡_ {A = ℕ} 0 1 = cc in omega arith
+lives-accepted d (remaining.Live l) why e = let z : _≡_ {A = ℕ} 0 1 = cc in omega arith
+
+status-accepted : (x : Deadline) (t : Tick) → Accepted (statusOf x t)
+status-accepted (deadline.At d) t why e = lives-accepted d (remainingAt d t) why e
+status-accepted deadline.Nothing t why e = let z : _≡_ {A = ℕ} 0 1 = cc in omega arith
+status-accepted (deadline.Refused w) t why e = let z : _≡_ {A = ℕ} 0 1 = cc in omega arith
+
+status-in : (x : Option Pair) (t : Tick) → statusOf (deadlineIn x) t ≡ statusIn t x
+status-in none t = refl
+status-in (some p) t = refl
+
 -- ---- calls that are not turned back by a cause
 module _ (ws : List ℕ) (b : Expiring) (t : Tick) (limits : limitsOf (capacityOf b) (limitOf b) (length ws) ≡ Done) (word : b .expirations < 2 ^ 64) where
   -- one that changes nothing
@@ -143,3 +181,105 @@ module _ (ws : List ℕ) (b : Expiring) (t : Tick) (limits : limitsOf (capacityO
   pub follow-insert : {k v : ℕ} {ws′ : List ℕ} {r : Reply} → b .«default_ttl» ≡ default.Nothing → Inserting ws b t k v (drop k) ws′ r → Following ws b t (insert k v) ws′ r
   unfolding changeOf storedAfter expiredBy answered badNanos modelOf isExpired valueUnlessExpired
   follow-insert {k} {v} e a = follow ws b t (insert k v) limits refl a (λ o m n. rw e) (λ o m n. refl) (λ o m n. refl) (λ o m n. refl)
+
+  pub follow-timed-zero : {k v : ℕ} {d : Duration} {ws′ : List ℕ} {r : Reply} → isDuration d ≡ true → isZero d ≡ true → Removing ws b t k ws′ r → Following ws b t (insertWithTtl k v d) ws′ r
+  unfolding changeOf storedAfter expiredBy answered badNanos modelOf isExpired valueUnlessExpired
+  follow-timed-zero {k} {v} {d} i z a = follow ws b t (insertWithTtl k v d) limits (rw i) a (λ o m n. rw z) (λ o m n. rw z) (λ o m n. refl) (λ o m n. refl)
+
+  pub follow-timed : {k v : ℕ} {d : Duration} {l : TtlTicks} {x : Tick} {ws′ : List ℕ} {r : Reply} → isDuration d ≡ true → isZero d ≡ false → l ≡ record { 0 = millisOf d } → x ≡ deadlineFrom t l → Inserting ws b t k v (set k x) ws′ r → Following ws b t (insertWithTtl k v d) ws′ r
+  unfolding changeOf storedAfter expiredBy answered badNanos modelOf isExpired valueUnlessExpired
+  follow-timed {k} {v} {d} i z e f a = follow ws b t (insertWithTtl k v d) limits (rw i) a (λ o m n. rw (z, f, e)) (λ o m n. rw z) (λ o m n. refl) (λ o m n. refl)
+
+  -- ---- `clear`
+  pub follow-clear : {ws₁ ws₂ : List ℕ} {r : Opened} {b₂ : Expiring} {n : ℕ} → lru.Clearing ws (b .inner) ws₁ r → Moved ws₁ (withList b (r .lru)) dropAll same ws₂ b₂ n → Following ws b t clear ws₂ (record { book = b₂; answer = answers.Done; discarded = n })
+  unfolding changeOf storedAfter expiredBy answered badNanos modelOf
+  follow-clear {ws₁} {ws₂} {r} a m =
+      follow ws b t clear limits refl
+      (acting (moved-then (moved-list b (r .lru) (a .capacity) (a .kept) (λ s. []) (λ is. a .list (list-admitted is)) (λ is. a .model (list-admitted is))) m) (λ o. refl) word done-accepted (λ o. refl) (λ o. refl) (λ o. refl))
+      (λ o x y. refl) (λ o x y. refl) (λ o x y. refl) (λ o x y. refl)
+
+  -- ---- `ttl_status`
+  pub follow-status-missing : {k : ℕ} {s : Bool} → Stored ws b k s → s ≡ false → Following ws b t (ttlStatus k) ws (replying b answers.Missing)
+  unfolding changeOf storedAfter expiredBy answered badNanos modelOf
+  follow-status-missing {k} s y = follow-same (ttlStatus k) refl (λ m n. refl) (λ m n. refl) (λ m n. refl) missing-accepted (λ o m n. rw (sym (s .answer o), y))
+
+  pub follow-status : {k : ℕ} {s : Bool} {d : Deadline} {u : Answer} → Stored ws b k s → s ≡ true → DeadlineOf ws b k d → u ≡ statusOf d t → Following ws b t (ttlStatus k) ws (replying b u)
+  unfolding changeOf storedAfter expiredBy answered badNanos modelOf deadlineOf
+  follow-status {k} {s} {d} s₁ y a u =
+      rw u (follow-same (ttlStatus k) refl (λ m n. refl) (λ m n. refl) (λ m n. refl) (status-accepted d t) (λ o m n. rw (sym (s₁ .answer o), y) (sym (ap (λ (x : Deadline). statusOf x t) (a .answer o) ∙ status-in (pairs.lookup k (deadlinesOf ws b)) t))))
+
+  -- ---- `live_len` and `expirations`
+  pub follow-live : {s e : ℕ} {u : Answer} → StoredCount ws b s → ExpiredCount ws b t e → u ≡ answers.Count (s - e) → Following ws b t liveLen ws (replying b u)
+  unfolding changeOf storedAfter expiredBy answered badNanos modelOf
+  follow-live {s} {e} a x u = rw u (follow-same liveLen refl (λ m n. refl) (λ m n. refl) (λ m n. refl) (count-accepted (s - e)) (λ o m n. rw (sym (a .answer o), sym (x .answer o))))
+
+  pub follow-expirations : Following ws b t expirations ws (replying b (answers.Count (b .expirations)))
+  unfolding changeOf storedAfter expiredBy answered badNanos modelOf
+  follow-expirations = follow-same expirations refl (λ m n. refl) (λ m n. refl) (λ m n. refl) (count-accepted (b .expirations)) (λ o m n. refl)
+
+  -- ---- `next_deadline`
+  pub follow-next : (room : Room (length ws) (capacityOf b) (limitOf b)) {ys : List ℕ} {r : Looked} {u : Answer} → calls.NextDeadline (lent ws b) (b .index) ys r → u ≡ ofDue (r .answer) → Following ws b t nextDeadline (back ws b ys) (record { book = withIndex b (r .index); answer = u; discarded = r .discarded })
+  unfolding changeOf storedAfter expiredBy answered badNanos modelOf nextDue
+  follow-next room {ys} {r} a u =
+      rw u (follow ws b t nextDeadline limits refl (acting (moved-look ws b room (a .call)) (λ o. refl) word (due-accepted (r .answer)) (λ o. refl) (λ o. refl) (λ o. refl))
+      (λ o x y. refl) (λ o x y. refl) (λ o x y. refl) (λ o x y. sym (ap ofDue (a .answer (lent-index ws b room o)) ∙ due-in (next (index.modelOf (lent ws b) (b .index))) ∙ ap (λ (l : List ℕ). dueIn (next (index.modelOf l (b .index)))) (lent-is ws b room))))
+
+  -- ---- the list's own
+  pub follow-touch : {k : ℕ} {ws′ : List ℕ} {r : Touched} {u : Answer} → lru.Touching ws (b .inner) k ws′ r → u ≡ ofTold (r .answer) → Following ws b t (touch k) ws′ (replying (withList b (r .lru)) u)
+  unfolding changeOf storedAfter expiredBy answered badNanos modelOf
+  follow-touch {k} {ws′} {r} a u =
+      rw u (follow ws b t (touch k) limits refl (acting (moved-list b (r .lru) (a .capacity) (a .kept) (toFront k) (a .list) (a .model)) (λ o. refl) word (told-accepted (r .answer)) (λ o. refl) (λ o. refl) (λ o. refl))
+      (λ o m n. refl) (λ o m n. refl) (λ o m n. refl) (λ o m n. sym (ap ofTold (a .answer (o .list)) ∙ told-tell (list.has k (storedOf ws b)))))
+
+  pub follow-rank : {k : ℕ} {r : Ranked} {u : Answer} → lru.Ranking ws (b .inner) k r → u ≡ rankIn (r .answer) → Following ws b t (recencyRank k) ws (replying b u)
+  unfolding changeOf storedAfter expiredBy answered badNanos modelOf
+  follow-rank {k} {r} a u = rw u (follow-same (recencyRank k) refl (λ m n. refl) (λ m n. refl) (λ m n. refl) (rank-accepted (r .answer)) (λ o m n. ap rankIn (sym (a .answer (o .list)))))
+
+  pub follow-pop : {ws′ : List ℕ} {r : Popped} {u : Answer} → lru.Popping ws (b .inner) ws′ r → u ≡ ofOldest (r .answer) → Following ws b t popLru ws′ (replying (withList b (r .lru)) u)
+  unfolding changeOf storedAfter expiredBy answered badNanos modelOf oldestOf
+  follow-pop {ws′} {r} a u =
+      rw u (follow ws b t popLru limits refl (acting (moved-list b (r .lru) (a .capacity) (a .kept) popped (a .list) (a .model)) (λ o. refl) word (oldest-accepted (r .answer)) (λ o. refl) (λ o. refl) (λ o. refl))
+      (λ o m n. refl) (λ o m n. refl) (λ o m n. refl) (λ o m n. sym (ap ofOldest (a .answer (o .list)) ∙ oldest-in (last (storedOf ws b)))))
+
+  pub follow-oldest : {r : Oldest} {u : Answer} → lru.PeekingOldest ws (b .inner) r → u ≡ ofOldest r → Following ws b t peekLru ws (replying b u)
+  unfolding changeOf storedAfter expiredBy answered badNanos modelOf oldestOf
+  follow-oldest {r} a u = rw u (follow-same peekLru refl (λ m n. refl) (λ m n. refl) (λ m n. refl) (oldest-accepted r) (λ o m n. sym (ap ofOldest (a .answer (o .list)) ∙ oldest-in (last (storedOf ws b)))))
+
+  -- ---- `set_ttl`
+  module _ (k : ℕ) (d : Duration) (i : isDuration d ≡ true) {s : Bool} (held : Stored ws b k s) where
+    pub follow-ttl-missing : s ≡ false → Following ws b t (setTtl k d) ws (replying b answers.No)
+    unfolding changeOf storedAfter expiredBy answered badNanos modelOf isExpired
+    follow-ttl-missing y =
+        follow ws b t (setTtl k d) limits (rw i) (acting (moved-same ws b) (λ o. refl) word (tell-accepted false) (λ o. refl) (λ o. refl) (λ o. refl))
+        (λ o m n. rw (sym (held .answer o), y)) (λ o m n. rw (sym (held .answer o), y)) (λ o m n. rw (sym (held .answer o), y)) (λ o m n. rw (sym (held .answer o), y))
+
+    module _ (y : s ≡ true) {e : Bool} (x : Expired ws b t k e) where
+      pub follow-ttl-expired : {ws′ : List ℕ} {v : Valued} → e ≡ true → Valuing ws b (drop k) k (list.without k) ws′ v → Following ws b t (setTtl k d) ws′ (replying (withExpired (v .book) 1) answers.No)
+      unfolding changeOf storedAfter expiredBy answered badNanos modelOf isExpired
+      follow-ttl-expired z v =
+          follow ws b t (setTtl k d) limits (rw i) (acting-expired (v .moved) (λ o. refl) 1 (tell-accepted false) (λ o. refl) (λ o. refl) (λ o. refl))
+          (λ o m n. rw (sym (held .answer o), y, sym (x .answer o), z)) (λ o m n. rw (sym (held .answer o), y, sym (x .answer o), z)) (λ o m n. rw (sym (held .answer o), y, sym (x .answer o), z)) (λ o m n. rw (sym (held .answer o), y, sym (x .answer o), z))
+
+      module _ (z : e ≡ false) where
+        pub follow-ttl-zero : {ws′ : List ℕ} {v : Valued} → millisOf d ≡ 0 → Valuing ws b (drop k) k (list.without k) ws′ v → Following ws b t (setTtl k d) ws′ (replying (v .book) answers.No)
+        unfolding changeOf storedAfter expiredBy answered badNanos modelOf isExpired
+        follow-ttl-zero q v =
+            follow ws b t (setTtl k d) limits (rw i) (acting (v .moved) (λ o. refl) word (tell-accepted false) (λ o. refl) (λ o. refl) (λ o. refl))
+            (λ o m n. rw (sym (held .answer o), y, sym (x .answer o), z, eq-eqb (millisOf d) 0 q)) (λ o m n. rw (sym (held .answer o), y, sym (x .answer o), z, eq-eqb (millisOf d) 0 q)) (λ o m n. rw (sym (held .answer o), y, sym (x .answer o), z)) (λ o m n. rw (sym (held .answer o), y, sym (x .answer o), z, eq-eqb (millisOf d) 0 q))
+
+        module _ (q : millisOf d ≡ 0 → ⊥) {l : TtlTicks} (f : millisOf d ≡ l .0) {ws′ : List ℕ} {r : Dated} (a : Dating ws b k (deadlineFrom t l) ws′ r) where
+          change : IsBook ws b → (m n : ℕ) → changeOf t (setTtl k d) (modelOf ws b m n) ≡ set k (deadlineFrom t l)
+          unfolding changeOf modelOf isExpired
+          change o m n = rw (sym (held .answer o), y, sym (x .answer o), z, ne-eqb (millisOf d) 0 q, f)
+
+          pub follow-ttl-full : r .«is_set» ≡ false → Following ws b t (setTtl k d) ws′ (replying b (answers.Refused KeyLimitReached))
+          unfolding storedAfter expiredBy answered badNanos modelOf isExpired
+          follow-ttl-full u =
+              follow ws b t (setTtl k d) limits (rw i) (acting-full ws b {s = storedOf ws b} {n = 0} {a = answers.Yes} (a .refused u) (unset-beyond a u)) change
+              (λ o m n. rw (sym (held .answer o), y, sym (x .answer o), z, ne-eqb (millisOf d) 0 q)) (λ o m n. rw (sym (held .answer o), y, sym (x .answer o), z)) (λ o m n. rw (sym (held .answer o), y, sym (x .answer o), z, ne-eqb (millisOf d) 0 q))
+
+          pub follow-ttl-set : r .«is_set» ≡ true → Following ws b t (setTtl k d) ws′ (record { book = r .book; answer = answers.Yes; discarded = r .discarded })
+          unfolding storedAfter expiredBy answered badNanos modelOf isExpired
+          follow-ttl-set u =
+              follow ws b t (setTtl k d) limits (rw i) (acting (a .moved u) (set-within a u) word (tell-accepted true) (λ o. refl) (λ o. refl) (λ o. refl)) change
+              (λ o m n. rw (sym (held .answer o), y, sym (x .answer o), z, ne-eqb (millisOf d) 0 q)) (λ o m n. rw (sym (held .answer o), y, sym (x .answer o), z)) (λ o m n. rw (sym (held .answer o), y, sym (x .answer o), z, ne-eqb (millisOf d) 0 q))

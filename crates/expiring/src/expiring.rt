@@ -340,12 +340,15 @@ impl Expiring {
     {
         match self.limits(words.len()) {
             Outcome::Refused(why) => self.refused(why),
-            Outcome::Done => match self.default_ttl {
-                DefaultTtl::Of(ttl) => {
-                    self.insert_until(words, tick, key, value, tick.deadline_from(ttl))
+            Outcome::Done => {
+                let default_ttl = self.default_ttl;
+                match default_ttl {
+                    DefaultTtl::Of(ttl) => {
+                        self.insert_until(words, tick, key, value, tick.deadline_from(ttl))
+                    }
+                    DefaultTtl::Nothing => self.insert_forever(words, tick, key, value),
                 }
-                DefaultTtl::Nothing => self.insert_forever(words, tick, key, value),
-            },
+            }
         }
     }
 
@@ -465,17 +468,7 @@ impl Expiring {
     {
         match self.limits(words.len()) {
             Outcome::Refused(why) => self.refused(why),
-            Outcome::Done => {
-                let start = 64 + 8 * self.inner.map.capacity;
-                let looked = self.index.next_deadline(&mut words[start..]);
-                let index = looked.index;
-                let answer = looked.answer;
-                Reply {
-                    book: self.with_index(index),
-                    answer: of_due(answer),
-                    discarded: looked.discarded,
-                }
-            }
+            Outcome::Done => self.next_within(words, _tick),
         }
     }
 
@@ -539,14 +532,19 @@ impl Expiring {
     {
         match self.limits(words.len()) {
             Outcome::Refused(_) => false,
-            Outcome::Done => {
-                if self.inner.check(words) {
-                    let start = 64 + 8 * self.inner.map.capacity;
-                    return self.index.check(&words[start..]);
-                }
-                false
-            }
+            Outcome::Done => self.check_within(words),
         }
+    }
+
+    fn check_within(self, words: &[u64]) -> bool
+        requires { ⌜ Room (length (now words)) (capacityOf self) (limitOf self) ⌝ }
+        ensures { λ r. ⌜ Checking (now (words .entry)) self r ⌝ }
+    {
+        let start = 64 + 8 * self.inner.map.capacity;
+        if self.inner.check(words) {
+            return self.index.check(&words[start..]);
+        }
+        false
     }
 
     // ---- replies
@@ -758,6 +756,21 @@ impl Expiring {
 
     // ---- the larger calls, on words and numbers within their limits
 
+    fn next_within(self, words: &mut [u64], _tick: Tick) -> Reply
+        requires { ⌜ Room (length (now words)) (capacityOf self) (limitOf self) ⌝ }
+        ensures { λ r. ⌜ Following (now (words .entry)) self «_tick» nextDeadline (now (words .exit)) r ⌝ }
+    {
+        let start = 64 + 8 * self.inner.map.capacity;
+        let looked = self.index.next_deadline(&mut words[start..]);
+        let index = looked.index;
+        let answer = looked.answer;
+        Reply {
+            book: self.with_index(index),
+            answer: of_due(answer),
+            discarded: looked.discarded,
+        }
+    }
+
     fn remove_within(self, words: &mut [u64], tick: Tick, key: u64) -> Reply
         requires { ⌜ Room (length (now words)) (capacityOf self) (limitOf self) ⌝ }
         ensures { λ r. ⌜ steps.Removing (now (words .entry)) self tick key (now (words .exit)) r ⌝ }
@@ -900,7 +913,8 @@ impl Expiring {
         let index = looked.index;
         let book = self.with_index(index);
         let stale = looked.discarded as u64;
-        match looked.answer {
+        let answer = looked.answer;
+        match answer {
             Due::Pair(key, _) => {
                 let dropped = book.drop_value(words, key);
                 let book = dropped.book;

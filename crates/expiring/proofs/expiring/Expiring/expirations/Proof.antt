@@ -1,3 +1,7 @@
+use mathlib.Core.Path.{refl, sym, _∙_}
+use native.Mathlib.Omega.{arith}
+use Rattle.expiring.proofs.Acting.{follow-limits}
+use Rattle.expiring.proofs.Following.{follow-expirations}
 use borrow.Author.Needs.{needs}
 use Rattle.expiring.proofs.expiring.Expiring.expirations.Statement.{statement}
 use Rattle.expiring.proofs.expiring.Expiring.expirations.Tie as tie
@@ -11,5 +15,5 @@ expirations-spec =
     (λ c κs. search needs)
     (λ c. search needs)
     (λ c κs. search needs)
-    (λ c. ?returns)
-    (λ c. ?returns-2))
+    (λ c. rw (c .refused .ensures) (follow-limits _ _ _ _ (sym (c .before .before .before .before .limits .ensures) ∙ c .before .before .why .given .1)))
+    (λ c. let e = c .before in let s = e .before .before .before .before in let l = sym (e .before .before .limits .ensures) ∙ e .enum-told .given .1 in rw (c .answered .ensures) (follow-expirations _ _ _ l (omega (arith, s .good)))))

@@ -1,3 +1,7 @@
+use mathlib.Core.Path.{refl, sym, _∙_}
+use native.Mathlib.Omega.{arith}
+use Rattle.expiring.proofs.Acting.{follow-limits}
+use Rattle.expiring.proofs.Following.{follow-touch}
 use borrow.Author.Needs.{needs}
 use Rattle.expiring.proofs.expiring.Expiring.touch.Statement.{statement}
 use Rattle.expiring.proofs.expiring.Expiring.touch.Tie as tie
@@ -14,6 +18,6 @@ touch-spec =
     (λ c κs. search needs)
     (λ c κs. search needs)
     (λ c κs. search needs)
-    (λ c. ?returns)
+    (λ c. rw (c .refused .ensures) (follow-limits _ _ _ _ (sym (c .before .before .before .before .limits .ensures) ∙ c .before .before .why .given .1)))
     (λ c. search needs)
-    (λ c. ?returns-2))
+    (λ c. let f = c .before in let w = f .before in let k = w .before .before .before .before in let e = k .before .before in let s = e .before .before .before .before in let l = sym (e .before .before .limits .ensures) ∙ e .enum-told .given .1 in rw (c .answered .ensures, w .with-list .ensures) (follow-touch _ _ _ l (omega (arith, s .good)) (k .touch .ensures) (f .of-told .ensures))))
