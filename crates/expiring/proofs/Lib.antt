@@ -3,6 +3,7 @@ pub mod Limits
 pub mod Moving
 pub mod Acting
 pub mod Purging
+pub mod PurgeLoop
 pub mod Accounts
 pub mod Runs
 pub mod Samples
