@@ -7,6 +7,7 @@ use Prim.Native.Nat.{ℕ, _+_, _-_, _<_, _≤_}
 use native.Mathlib.Omega.{arith}
 use lib.ListN.{length}
 use Rattle.time.specs.declared.tick.Tick.{Tick}
+use Rattle.time.specs.declared.refusal.Outcome.the-variants.{Done}
 use Rattle.lazy_heap.specs.Model.{popped}
 use Rattle.lazy_heap.proofs.Laws.{fair-heap}
 use Rattle.fast_lru.specs.Model as list
@@ -14,13 +15,16 @@ use Rattle.expiration_index.specs.Model.{Pair, nextExpired, expiredCount, less,
 use Rattle.expiration_index.specs.Model as pairs
 use Rattle.expiration_index.specs.Calls.{poppedExpired, takenIf}
 use Rattle.expiration_index.proofs.Laws.{model-distinct, model-bounded}
+use Rattle.expiring.specs.declared.answers.Answer.the-variants as answers
 use Rattle.expiring.specs.declared.expiring.Expiring.{Expiring}
 use Rattle.expiring.specs.declared.expiring.Popped.{Popped}
-use Rattle.expiring.specs.Model.{dropExpired, pairsAfter, withoutExpired}
+use Rattle.expiring.specs.Model.{purgeExpired, dropExpired, changeOf, pairsAfter, withoutExpired, storedAfter, expiredBy, answered, badNanos}
 use Rattle.expiring.specs.Discards.{discards, heapAfter}
-use Rattle.expiring.specs.Book.{Room, capacityOf, limitOf, IsBook, heapOf, Kept}
-use Rattle.expiring.specs.Steps.{saturatingSum, storedOf, deadlinesOf, Moved, isSome, lessValue, PoppingExpired}
+use Rattle.expiring.specs.Book.{limitsOf, Room, capacityOf, limitOf, IsBook, heapOf, modelOf, Kept}
+use Rattle.expiring.specs.Calls.{Following}
+use Rattle.expiring.specs.Steps.{saturatingSum, purging, storedOf, deadlinesOf, Moved, isSome, lessValue, PoppingExpired}
 use Rattle.expiring.proofs.Frames.{kept-same, kept-then}
+use Rattle.expiring.proofs.Acting.{Accepted, acting-expired, follow}
 use Rattle.expiring.proofs.Purging.{purged-accounts, purged-none, discards-none, purged-some, discards-some, expired-few, count-none, pairs-none, stored-none, taken-is, count-some, pairs-some, stored-some}
 
 -- n pairs were taken out and so many stale entries discarded, so that what is to be done is what was to be done at first, but
@@ -171,3 +175,23 @@ module _ {ws ws₁ : List ℕ} {b b₁ : Expiring} {t : Tick} {n s left : ℕ} (
     discarded = λ is. absurd (rounds-left is e);
     kept = so-far .kept;
   }
+
+-- ---- at its end it follows the model
+count-accepted : (n : ℕ) → Accepted (answers.Count n)
+count-accepted n why e = let z : _≡_ {A = ℕ} 0 1 = cc in omega arith
+
+purge-follows : {ws ws′ : List ℕ} {b b′ : Expiring} {t : Tick} (n stale : ℕ) → limitsOf (capacityOf b) (limitOf b) (length ws) ≡ Done → Moved ws b (dropExpired t) (withoutExpired t (deadlinesOf ws b)) ws′ b′ (saturatingSum n stale) → (IsBook ws b → n ≡ expiredCount t (deadlinesOf ws b)) → Following ws b t purgeExpired ws′ (purging b′ n stale)
+unfolding modelOf changeOf storedAfter expiredBy answered badNanos
+purge-follows {ws = ws} {b = b} {t = t} n stale limits moved count =
+    follow ws b t purgeExpired limits refl
+    (acting-expired moved (λ is. refl) n (count-accepted n) (λ is. refl) count (λ is. ap answers.Count (count is)))
+    (λ is x y. refl) (λ is x y. refl) (λ is x y. refl) (λ is x y. refl)
+
+module _ {ws ws₁ : List ℕ} {b b₁ : Expiring} {t : Tick} {n s left : ℕ} (limits : limitsOf (capacityOf b) (limitOf b) (length ws) ≡ Done) (so-far : Progress ws b t ws₁ b₁ n s left) where
+  -- with none left to take
+  pub purge-ends : {ws₂ : List ℕ} {r : Popped} → PoppingExpired ws₁ b₁ t ws₂ r → r .«is_popped» ≡ false → Following ws b t purgeExpired ws₂ (purging (r .book) n (saturatingSum s (r .stale)))
+  purge-ends {r = r} o end = purge-follows n (saturatingSum s (r .stale)) limits (purge-moved so-far o end) (purge-count so-far o end)
+
+  -- with no round left, which is no book
+  pub purge-spent : left ≡ 0 → Following ws b t purgeExpired ws₁ (purging b₁ n s)
+  purge-spent e = purge-follows n s limits (spent-moved so-far e) (λ is. absurd (rounds-left so-far is e))
