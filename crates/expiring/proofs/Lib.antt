@@ -7,6 +7,7 @@ pub mod Valuing
 pub mod Calling
 pub mod Following
 pub mod Purging
+pub mod PurgeLoop
 pub mod Accounts
 pub mod Runs
 pub mod Samples

@@ -65,6 +65,10 @@ unfolding live
 live-gone k l e q = ap (λ (j : ℕ). matches (held.lookup j (held.without k l)) e) q ∙ ap (λ (o : Taken). matches o e) (lookup-gone k l)
 
 -- ---- the entries before the first live one that is not expired
+both-false : (b : Bool) → (b && false) ≡ false
+both-false true = refl
+both-false false = refl
+
 module _ (t : Tick) where
   -- an entry at which a purge stops
   abbrev stops : List Record → Entry → Bool
@@ -115,10 +119,6 @@ module _ (t : Tick) where
         go false q ih = ih
 
     -- an expired one goes with them
-    both-false : (b : Bool) → (b && false) ≡ false
-    both-false true = refl
-    both-false false = refl
-
     before-one : (e : Entry) (es : List Entry) → ltb (t .0) (e .score) ≡ false → expiredBefore t l (e ∷ es) ≡ 1 + expiredBefore t l es
     unfolding expiredBefore
     before-one e es q = rw (q, both-false (live l e))
@@ -284,7 +284,7 @@ without-again : (k : ℕ) (s : Items) → list.without k (list.without k s) ≡ 
 without-again k s = lists.without-missing k (list.without k s) (lists.has-without k s)
 
 module _ (t : Tick) where
-  -- a key's own pairs do not matter where its value goes
+  -- where a key's value goes anyway, its own pairs do not matter
   without-expired : (k : ℕ) (l : Pairs) (s : Items) → list.without k (withoutExpired t l s) ≡ withoutExpired t (pairs.without k l) (list.without k s)
   unfolding withoutExpired pairs.without
   without-expired k [] s = refl
@@ -296,7 +296,7 @@ module _ (t : Tick) where
       go false q true w ih = rw w (without-twice k (p .key) (withoutExpired t l s) ∙ ap (list.without (p .key)) ih)
       go false q false w ih = rw w ih
 
-  -- and it does, where one of them is expired
+  -- where one of them is expired, its value has gone with it
   expired-gone : (k : ℕ) (l : Pairs) (s : Items) → expiredCount t (pairs.without k l) < expiredCount t l → list.without k (withoutExpired t l s) ≡ withoutExpired t l s
   unfolding withoutExpired pairs.without expiredCount
   expired-gone k [] s h = absurd (omega arith)

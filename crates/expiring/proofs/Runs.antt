@@ -1,6 +1,6 @@
 -- A list of calls comes to what the model comes to: each call does, on what the one before left.
 use mathlib.Core.Path.{_≡_, refl, ap, _∙_, subst}
-use mathlib.Core.List.{List}
+use mathlib.Core.List.{List, [], _∷_, _++_}
 use Prim.Native.Nat.{ℕ, _+_}
 use native.Mathlib.Omega.{arith}
 use Rattle.time.specs.declared.tick.Tick.{Tick}
@@ -48,6 +48,13 @@ follow p is e (more {t = t} {c = c} {r = r} {cs = cs} {n = n} o run) =
       book = f .book;
       sum = omega (arith, f .sum, sum-next is e o);
     }
+
+-- ---- a call more
+pub run-then : {ws ws₁ ws₂ : List ℕ} {b b₁ : Expiring} {t : Tick} {c : Call} {r : Reply} {cs : Calls} {told : List Answer} {n : ℕ} → Run ws b cs told n ws₁ b₁ → Following ws₁ b₁ t c ws₂ r → Run ws b (cs ++ ((t, c) ∷ [])) (told ++ (r .answer ∷ [])) (n + r .discarded) ws₂ (r .book)
+run-then {ws = ws} {ws₂ = ws₂} {b = b} {t = t} {c = c} {r = r} none o =
+    subst (λ (k : ℕ). Run ws b ((t, c) ∷ []) (r .answer ∷ []) k ws₂ (r .book)) (let q : r .discarded + 0 ≡ 0 + r .discarded = omega arith in q) (more o none)
+run-then {ws = ws} {ws₂ = ws₂} {b = b} {t = t} {c = c} {r = r} (more {t = u} {c = d} {r = a} {cs = cs} {told = told} {n = n} p run) o =
+    subst (λ (k : ℕ). Run ws b ((u, d) ∷ (cs ++ ((t, c) ∷ []))) (a .answer ∷ (told ++ (r .answer ∷ []))) k ws₂ (r .book)) (let q : a .discarded + (n + r .discarded) ≡ a .discarded + n + r .discarded = omega arith in q) (more p (run-then run o))
 
 -- ---- demand 3
 pub as-the-model : {ws ws₁ ws′ : List ℕ} {c d s : ℕ} {l : DefaultDuration} {r : Opened} {b : Expiring} {cs : Calls} {told : List Answer} {n : ℕ} → Opening ws c d s l ws₁ r → r .outcome ≡ Done → Run ws₁ (r .book) cs told n ws′ b → AsTheModel (fresh c d (defaultOf l)) cs told n ws′ b
