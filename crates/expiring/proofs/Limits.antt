@@ -47,5 +47,5 @@ pub no-book : (ws : List ℕ) (b : Expiring) {why : Refusal} → limitsOf (capac
 no-book ws b {why} e o = refused-done why (sym e ∙ room-limits (book-room o))
 
 -- and keeps it when the values change
-pub room-list : {ws ws′ : List ℕ} {b : Expiring} {l : FastLru} → l .map .capacity ≡ capacityOf b → lru.Kept (capacityOf b) ws ws′ → Room (length ws) (capacityOf b) (limitOf b) → Room (length ws′) (capacityOf (withList b l)) (limitOf (withList b l))
-room-list e k r = rw (e, k .size) r
+pub room-list : {ws ws′ : List ℕ} (b : Expiring) (l : FastLru) → l .map .capacity ≡ capacityOf b → lru.Kept (capacityOf b) ws ws′ → Room (length ws) (capacityOf b) (limitOf b) → Room (length ws′) (capacityOf (withList b l)) (limitOf (withList b l))
+room-list b l e k r = rw (e, k .size) r
