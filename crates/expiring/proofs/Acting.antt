@@ -1,15 +1,14 @@
 -- From what a call does to the two parts of a book to what the model says of the call.
 use mathlib.Core.Path.{_≡_, refl, sym, ap, _∙_}
 use mathlib.Core.Bool.{Bool, true, false, true≢false, cond, not}
-use mathlib.Core.Logic.{_⊎_, inl, inr}
+use mathlib.Core.Logic.{inl, inr}
 use mathlib.Core.List.{List}
-use Prim.Native.Nat.{ℕ, _+_, _^_, _<_}
+use Prim.Native.Nat.{ℕ, _^_, _<_}
 use native.Mathlib.Omega.{arith}
 use lib.ListN.{length}
 use Rattle.time.specs.declared.tick.Tick.{Tick}
 use Rattle.time.specs.declared.refusal.Refusal.{Refusal}
 use Rattle.time.specs.declared.refusal.Refusal.the-variants.{InvalidNanos, KeyLimitReached}
-use Rattle.time.specs.declared.refusal.Outcome.{Outcome}
 use Rattle.time.specs.declared.refusal.Outcome.the-variants.{Done, Refused}
 use Rattle.lazy_heap.specs.Model.{Heap}
 use Rattle.fast_lru.specs.Model.{Items}
@@ -21,7 +20,7 @@ use Rattle.expiring.specs.declared.expiring.Expiring.{Expiring}
 use Rattle.expiring.specs.declared.expiring.DefaultTtl.{DefaultTtl}
 use Rattle.expiring.specs.Model.{Book, Call, Change, keep, set, drop, dropExpired, dropAll, look, changeOf, pairsAfter, storedAfter, expiredBy, answered, badNanos, setsBeyond, refusalOf, accepted, answerOf, bookAfter}
 use Rattle.expiring.specs.Discards.{discards, heapAfter, discardedBy, heapBy}
-use Rattle.expiring.specs.Book.{limitsOf, capacityOf, limitOf, IsBook, heapOf, modelOf, Kept}
+use Rattle.expiring.specs.Book.{limitsOf, capacityOf, limitOf, IsBook, heapOf, modelOf}
 use Rattle.expiring.specs.Calls.{causeOf, Following}
 use Rattle.expiring.specs.Steps.{withExpired, replying, storedOf, deadlinesOf, saturatingSum, Moved, beyond, Acting}
 use Rattle.expiring.proofs.Frames.{kept-same}
@@ -72,7 +71,7 @@ module _ (t : Tick) (c : Call) (m : Book) where
     unfolding heapBy
     heap-done e = rw e
 
-same-book : {c c′ d d′ e e′ r x : ℕ} {l l′ : DefaultTtl} {s s′ : Items} {p p′ : Pairs} → c ≡ c′ → d ≡ d′ → l ≡ l′ → s ≡ s′ → p ≡ p′ → e ≡ e′
+pub same-book : {c c′ d d′ e e′ r x : ℕ} {l l′ : DefaultTtl} {s s′ : Items} {p p′ : Pairs} → c ≡ c′ → d ≡ d′ → l ≡ l′ → s ≡ s′ → p ≡ p′ → e ≡ e′
     → _≡_ {A = Book} (record { capacity = c; limit = d; lifetime = l; stored = s; deadlines = p; expirations = e; replaced = r; removed = x }) (record { capacity = c′; limit = d′; lifetime = l′; stored = s′; deadlines = p′; expirations = e′; replaced = r; removed = x })
 same-book a b c d e f = cc
 

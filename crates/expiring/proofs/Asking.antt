@@ -1,5 +1,5 @@
 -- What stands in the words, as the layers below tell it.
-use mathlib.Core.Path.{_≡_, refl, sym, ap, _∙_}
+use mathlib.Core.Path.{_≡_, refl, sym, ap, _∙_, subst}
 use mathlib.Core.Bool.{Bool, true, false}
 use mathlib.Core.Option.{Option, none, some}
 use mathlib.Core.List.{List}
@@ -14,6 +14,7 @@ use Rattle.fast_lru.specs.declared.answers.Count.{Count}
 use Rattle.fast_lru.specs.declared.answers.Count.the-variants as stored
 use Rattle.fast_lru.specs.Model as list
 use Rattle.fast_lru.specs.Calls as lru
+use Rattle.fast_lru.specs.Lru as lists
 use Rattle.time.specs.Deadline.{isExpiredAt}
 use Rattle.expiration_index.specs.declared.answers.Deadline.{Deadline}
 use Rattle.expiration_index.specs.declared.answers.Deadline.the-variants as deadline
@@ -25,6 +26,7 @@ use Rattle.expiration_index.specs.Calls as calls
 use Rattle.expiring.specs.declared.expiring.Expiring.{Expiring}
 use Rattle.expiring.specs.Model.{hasCome}
 use Rattle.expiring.specs.Book.{Room, capacityOf, limitOf}
+use Rattle.expiring.specs.Calls.{Checking}
 use Rattle.expiring.specs.Steps.{comeBy, storedOf, deadlinesOf, DeadlineOf, Expired, Stored, StoredCount, ExpiredCount}
 use Rattle.expiring.proofs.Moving.{lent, lent-is, lent-index}
 
@@ -38,6 +40,12 @@ module _ (ws : List ℕ) (b : Expiring) (room : Room (length ws) (capacityOf b) 
 
   pub asking-none : (t : Tick) {n : ℕ} {why : Refusal} {r : _} → calls.ExpiredCount (lent ws b) (b .index) t r → r ≡ expired.Refused why → ExpiredCount ws b t n
   asking-none t a e = record { answer = λ o. absurd (let q = sym e ∙ a .answer (lent-index ws b room o) in let z : _≡_ {A = ℕ} 0 1 = cc in omega arith) }
+
+  pub asking-check : lists.IsList ws (b .inner) → {r : Bool} → calls.Checking (lent ws b) (b .index) r → Checking ws b r
+  asking-check l k = record {
+    sound = λ q. record { list = l; index = subst (λ (w : List ℕ). index.IsIndex w (b .index)) (lent-is ws b room) (k .sound q) };
+    complete = λ o. k .complete (lent-index ws b room o);
+  }
 
 come : (t : Tick) (x : Option Pair) (d : Deadline) → d ≡ deadlineIn x → comeBy d t ≡ hasCome t x
 come t none d e = rw e

@@ -1,26 +1,22 @@
 -- The larger calls, of their steps.
-use mathlib.Core.Path.{_≡_, refl, sym, ap, _∙_}
-use mathlib.Core.Bool.{Bool, true, false, true≢false, cond, not}
+use mathlib.Core.Path.{_≡_, refl, sym, _∙_}
+use mathlib.Core.Bool.{Bool, true, false, true≢false, not}
 use mathlib.Core.List.{List}
 use Prim.Native.Nat.{ℕ, _^_, _<_}
 use native.Mathlib.Omega.{arith}
 use Rattle.time.specs.declared.tick.Tick.{Tick}
-use Rattle.time.specs.declared.refusal.Refusal.{Refusal}
-use Rattle.fast_lru.specs.Model.{Items}
 use Rattle.fast_lru.specs.Model as list
-use Rattle.expiring.specs.declared.answers.Answer.{Answer}
 use Rattle.expiring.specs.declared.answers.Answer.the-variants as answers
 use Rattle.expiring.specs.declared.answers.Reply.{Reply}
 use Rattle.expiring.specs.declared.expiring.Expiring.{Expiring}
 use Rattle.expiring.specs.declared.expiring.Dated.{Dated}
 use Rattle.expiring.specs.declared.expiring.Valued.{Valued}
-use Rattle.expiring.specs.Model.{Change, keep, set, drop, pairsAfter}
-use Rattle.expiring.specs.Discards.{discards, heapAfter}
-use Rattle.expiring.specs.Book.{capacityOf, limitOf, IsBook, heapOf}
-use Rattle.expiring.specs.Steps.{withExpired, replying, storedOf, deadlinesOf, Expired, Moved, same, Dating, Valuing, putting, expiredIn, valueOf, beyond, Acting, Placing, Inserting, Removing}
+use Rattle.expiring.specs.Model.{Change, keep, set, drop}
+use Rattle.expiring.specs.Book.{IsBook, heapOf}
+use Rattle.expiring.specs.Steps.{withExpired, replying, deadlinesOf, Expired, Moved, same, Dating, Valuing, putting, beyond, Placing, Inserting, Removing}
 use Rattle.expiring.proofs.Frames.{kept-then}
 use Rattle.expiring.proofs.Moving.{pairs-keep, heap-keep}
-use Rattle.expiring.proofs.Acting.{Accepted, acting-expired, acting, acting-full}
+use Rattle.expiring.proofs.Acting.{Accepted, acting-expired, acting}
 
 pub nothing-accepted : Accepted answers.Nothing
 nothing-accepted why e = let z : _≡_ {A = ℕ} 0 1 = cc in omega arith

@@ -1,11 +1,10 @@
 -- Each call, as the model says it.
 use mathlib.Core.Path.{_≡_, refl, sym, ap, _∙_}
-use mathlib.Core.Bool.{Bool, true, false, true≢false, cond, not, _&&_}
+use mathlib.Core.Bool.{Bool, true, false, not, _&&_}
 use mathlib.Core.Option.{Option, none, some}
 use mathlib.Core.List.{List, []}
-use Prim.Native.Nat.{ℕ, _-_, _^_, _<_, _≤_}
+use Prim.Native.Nat.{ℕ, _-_, _^_, _<_}
 use native.Mathlib.Omega.{arith}
-use lib.Dec.{eqb}
 use lib.ListN.{length}
 use borrow.Author.Tests.{eq-eqb, ne-eqb}
 use Rattle.time.specs.declared.tick.Tick.{Tick}
@@ -13,12 +12,9 @@ use Rattle.time.specs.declared.tick.Remaining.{Remaining}
 use Rattle.time.specs.declared.tick.Remaining.the-variants as remaining
 use Rattle.time.specs.declared.duration.Duration.{Duration}
 use Rattle.time.specs.declared.duration.TtlTicks.{TtlTicks}
-use Rattle.time.specs.declared.duration.Ticked.{Ticked}
-use Rattle.time.specs.declared.duration.Ticked.the-variants as ticked
-use Rattle.time.specs.declared.refusal.Refusal.{Refusal}
-use Rattle.time.specs.declared.refusal.Refusal.the-variants.{InvalidNanos, KeyLimitReached}
+use Rattle.time.specs.declared.refusal.Refusal.the-variants.{KeyLimitReached}
 use Rattle.time.specs.declared.refusal.Outcome.the-variants.{Done}
-use Rattle.time.specs.Duration.{isZero, isDuration, millisOf, ticksOf}
+use Rattle.time.specs.Duration.{isZero, isDuration, millisOf}
 use Rattle.time.specs.Deadline.{deadlineFrom, remainingAt}
 use Rattle.fast_lru.specs.declared.answers.Told.{Told}
 use Rattle.fast_lru.specs.declared.answers.Told.the-variants as told
@@ -32,7 +28,7 @@ use Rattle.fast_lru.specs.declared.answers.Rank.{Rank}
 use Rattle.fast_lru.specs.declared.answers.Rank.the-variants as rank
 use Rattle.fast_lru.specs.declared.answers.Ranked.{Ranked}
 use Rattle.fast_lru.specs.declared.answers.Opened.{Opened}
-use Rattle.fast_lru.specs.Model.{Item, Items, toFront, popped, last, rankOf, oldestOf}
+use Rattle.fast_lru.specs.Model.{Item, toFront, popped, last, oldestOf}
 use Rattle.fast_lru.specs.Model as list
 use Rattle.fast_lru.specs.Calls as lru
 use Rattle.fast_lru.proofs.Laws.{list-admitted}
@@ -41,7 +37,7 @@ use Rattle.expiration_index.specs.declared.answers.Deadline.the-variants as dea
 use Rattle.expiration_index.specs.declared.answers.Due.{Due}
 use Rattle.expiration_index.specs.declared.answers.Due.the-variants as due
 use Rattle.expiration_index.specs.declared.answers.Looked.{Looked}
-use Rattle.expiration_index.specs.Model.{Pair, Pairs, next, nextDue, pairIn, deadlineIn, deadlineOf, expiredCount}
+use Rattle.expiration_index.specs.Model.{Pair, next, nextDue, pairIn, deadlineIn, deadlineOf}
 use Rattle.expiration_index.specs.Model as pairs
 use Rattle.expiration_index.specs.Index as index
 use Rattle.expiration_index.specs.Calls as calls
@@ -49,17 +45,15 @@ use Rattle.expiring.specs.declared.answers.Answer.{Answer}
 use Rattle.expiring.specs.declared.answers.Answer.the-variants as answers
 use Rattle.expiring.specs.declared.answers.Reply.{Reply}
 use Rattle.expiring.specs.declared.expiring.Expiring.{Expiring}
-use Rattle.expiring.specs.declared.expiring.DefaultTtl.{DefaultTtl}
 use Rattle.expiring.specs.declared.expiring.DefaultTtl.the-variants as default
 use Rattle.expiring.specs.declared.expiring.Valued.{Valued}
 use Rattle.expiring.specs.declared.expiring.Dated.{Dated}
-use Rattle.expiring.specs.Model.{Call, contains, peek, get, insert, remove, clear, insertWithTtl, ttlStatus, setTtl, purgeExpired, liveLen, expirations, nextDeadline, touch, recencyRank, popLru, peekLru, Change, keep, set, drop, dropAll, look, isExpired, changeOf, storedAfter, expiredBy, answered, badNanos, valueUnlessExpired, valueIn, itemIn, dueIn, rankIn, tell, statusIn, livesAt}
-use Rattle.expiring.specs.Book.{limitsOf, Room, capacityOf, limitOf, IsBook, heapOf, modelOf}
+use Rattle.expiring.specs.Model.{Call, contains, peek, get, insert, remove, clear, insertWithTtl, ttlStatus, setTtl, liveLen, expirations, nextDeadline, touch, recencyRank, popLru, peekLru, keep, set, drop, dropAll, isExpired, changeOf, storedAfter, expiredBy, answered, badNanos, valueUnlessExpired, itemIn, dueIn, rankIn, tell, statusIn, livesAt}
+use Rattle.expiring.specs.Book.{limitsOf, Room, capacityOf, limitOf, IsBook, modelOf}
 use Rattle.expiring.specs.Calls.{Following}
-use Rattle.expiring.specs.Steps.{ofFound, ofTold, ofOldest, ofDue, statusOf, withList, withIndex, withExpired, replying, storedOf, deadlinesOf, DeadlineOf, Expired, Stored, StoredCount, ExpiredCount, Moved, same, Dating, Valuing, putting, expiredIn, beyond, Acting, Inserting, Removing}
-use Rattle.expiring.proofs.Limits.{room-limits}
+use Rattle.expiring.specs.Steps.{ofFound, ofTold, ofOldest, ofDue, statusOf, withList, withIndex, withExpired, replying, storedOf, deadlinesOf, DeadlineOf, Expired, Stored, StoredCount, ExpiredCount, Moved, same, Dating, Valuing, Inserting, Removing}
 use Rattle.expiring.proofs.Moving.{moved-list, moved-then, moved-same, moved-look, lent, back, lent-is, lent-index}
-use Rattle.expiring.proofs.Acting.{Accepted, follow, follow-nanos, acting, acting-expired, acting-full}
+use Rattle.expiring.proofs.Acting.{Accepted, follow, acting, acting-expired, acting-full}
 use Rattle.expiring.proofs.Valuing.{found-accepted, value-of}
 use Rattle.expiring.proofs.Calling.{nothing-accepted, unset-beyond, set-within}
 

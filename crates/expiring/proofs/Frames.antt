@@ -1,13 +1,13 @@
 -- The two parts of a book's words: what is done to one leaves the other as it was.
 use mathlib.Core.Path.{_≡_, refl, sym, ap, _∙_}
-use mathlib.Core.List.{List, _++_}
+use mathlib.Core.List.{List}
 use Prim.Native.Nat.{ℕ, _+_, _-_, _<_, _≤_}
 use native.Mathlib.Omega.{arith}
-use lib.ListN.{length, getD, take, drop, length-drop}
+use lib.ListN.{length, getD, drop, length-drop}
 use lib.Seq.{take-all, getD-drop}
 use borrow.Rule.Slice.PartMut.{midOf, putMid}
 use Rattle.lazy_heap.specs.Words as heap
-use Rattle.lazy_heap.proofs.Parts.{part-length, back-part, back-length, back-before, back-after}
+use Rattle.lazy_heap.proofs.Parts.{part-length, back-part, back-length, back-before}
 use Rattle.fast_lru.specs.Lru as lru
 use Rattle.expiring.specs.Book.{wordsFor, start, Kept}
 

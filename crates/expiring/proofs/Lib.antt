@@ -5,6 +5,9 @@ pub mod Asking
 pub mod Acting
 pub mod Valuing
 pub mod Calling
+pub mod Popping
+pub mod Opening
+pub mod Lifetimes
 pub mod Following
 pub mod Purging
 pub mod PurgeLoop

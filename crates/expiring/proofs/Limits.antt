@@ -1,5 +1,5 @@
 -- Refusals 1 and 2: what room there is where they do not come.
-use mathlib.Core.Path.{_≡_, refl, sym, _∙_}
+use mathlib.Core.Path.{_≡_, sym, _∙_}
 use mathlib.Core.List.{List}
 use Prim.Native.Nat.{ℕ}
 use native.Mathlib.Omega.{arith}
@@ -9,12 +9,9 @@ use Rattle.rings.proofs.Counts.{by-lt}
 use Rattle.time.specs.declared.refusal.Refusal.{Refusal}
 use Rattle.time.specs.declared.refusal.Refusal.the-variants.{LimitOutOfRange, TooFewWords}
 use Rattle.time.specs.declared.refusal.Outcome.the-variants.{Done, Refused}
-use Rattle.fast_lru.specs.declared.lru.FastLru.{FastLru}
-use Rattle.fast_lru.specs.Lru as lru
 use Rattle.fast_lru.proofs.Laws as list
 use Rattle.expiration_index.proofs.Laws as index
 use Rattle.expiring.specs.declared.expiring.Expiring.{Expiring}
-use Rattle.expiring.specs.Steps.{withList}
 use Rattle.expiring.specs.Book.{wordsFor, start, limitsOf, Room, capacityOf, limitOf, IsBook}
 
 refused-done : (why : Refusal) → Refused why ≡ Done → ⊥
@@ -47,5 +44,5 @@ pub no-book : (ws : List ℕ) (b : Expiring) {why : Refusal} → limitsOf (capac
 no-book ws b {why} e o = refused-done why (sym e ∙ room-limits (book-room o))
 
 -- and keeps it when the values change
-pub room-list : {ws ws′ : List ℕ} (b : Expiring) (l : FastLru) → l .map .capacity ≡ capacityOf b → lru.Kept (capacityOf b) ws ws′ → Room (length ws) (capacityOf b) (limitOf b) → Room (length ws′) (capacityOf (withList b l)) (limitOf (withList b l))
-room-list b l e k r = rw (e, k .size) r
+pub room-same : {c c′ d l l′ : ℕ} → c′ ≡ c → l′ ≡ l → Room l c d → Room l′ c′ d
+room-same e f r = rw (e, f) r

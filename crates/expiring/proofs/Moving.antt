@@ -24,7 +24,7 @@ use Rattle.expiring.specs.declared.expiring.Expiring.{Expiring}
 use Rattle.expiring.specs.Model.{Change, keep, drop, dropAll, look, pairsAfter}
 use Rattle.expiring.specs.Discards.{discards, heapAfter}
 use Rattle.expiring.specs.Book.{start, Room, capacityOf, limitOf, rest, IsBook, heapOf, Kept}
-use Rattle.expiring.specs.Steps.{withList, withIndex, storedOf, deadlinesOf, Moved, same}
+use Rattle.expiring.specs.Steps.{withList, withIndex, deadlinesOf, Moved, same}
 use Rattle.expiring.proofs.Frames.{rest-is, rest-back, rest-length, rest-before, rest-kept, kept-then, kept-list}
 
 -- ---- what keeps the deadlines
@@ -82,11 +82,14 @@ module _ (ws : List ℕ) (b : Expiring) (room : Room (length ws) (capacityOf b) 
     pub rest-index : rest (back ws b ys) (withIndex b x) ≡ ys
     rest-index = rest-back ws (start (capacityOf b)) (room-start ws b room) ys (k .size)
 
-    list-same : IsBook ws b → lru.IsList (back ws b ys) (b .inner) × (lru.modelOf (back ws b ys) (b .inner) ≡ lru.modelOf ws (b .inner))
+    pub list-same : IsBook ws b → lru.IsList (back ws b ys) (b .inner) × (lru.modelOf (back ws b ys) (b .inner) ≡ lru.modelOf ws (b .inner))
     list-same o =
         let n = rest-length ws (start (capacityOf b)) (room-start ws b room) ys (k .size) in
         let s = rest-before ws (start (capacityOf b)) (room-start ws b room) ys (k .size) in
         (list.list-frame (o .list) (back ws b ys) (omega (arith, n, o .list .words)) s, list.model-frame (o .list) (back ws b ys) (omega (arith, n, o .list .words)) s)
+
+    pub index-kept : Kept (capacityOf b) (limitOf b) ws (back ws b ys)
+    index-kept = rest-kept ws (start (capacityOf b)) (room-start ws b room) ys (k .size) (capacityOf b) (limitOf b) refl k
 
     pub moved-index : (ch : Change) {d : ℕ} → calls.limit x ≡ limitOf b → (IsBook ws b → index.IsIndex ys x) → (IsBook ws b → index.modelOf ys x ≡ pairsAfter ch (deadlinesOf ws b)) → (IsBook ws b → index.heapOf ys x ≡ heapAfter ch (heapOf ws b)) → (IsBook ws b → d ≡ discards ch (heapOf ws b)) → Moved ws b ch same (back ws b ys) (withIndex b x) d
     moved-index ch limit is model after count = record {
@@ -99,7 +102,7 @@ module _ (ws : List ℕ) (b : Expiring) (room : Room (length ws) (capacityOf b) 
       deadlines = λ o. ap (λ (l : List ℕ). index.modelOf l x) rest-index ∙ model o;
       heap = λ o. ap (λ (l : List ℕ). index.heapOf l x) rest-index ∙ after o;
       discarded = count;
-      kept = rest-kept ws (start (capacityOf b)) (room-start ws b room) ys (k .size) (capacityOf b) (limitOf b) refl k;
+      kept = index-kept;
     }
 
   -- as an index call has it

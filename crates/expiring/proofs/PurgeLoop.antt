@@ -24,7 +24,8 @@ use Rattle.expiring.specs.Book.{limitsOf, Room, capacityOf, limitOf, IsB
 use Rattle.expiring.specs.Calls.{Following}
 use Rattle.expiring.specs.Steps.{saturatingSum, purging, storedOf, deadlinesOf, Moved, isSome, lessValue, PoppingExpired}
 use Rattle.expiring.proofs.Frames.{kept-same, kept-then}
-use Rattle.expiring.proofs.Acting.{Accepted, acting-expired, follow}
+use Rattle.expiring.proofs.Following.{count-accepted}
+use Rattle.expiring.proofs.Acting.{acting-expired, follow}
 use Rattle.expiring.proofs.Purging.{purged-accounts, purged-none, discards-none, purged-some, discards-some, expired-few, count-none, pairs-none, stored-none, taken-is, count-some, pairs-some, stored-some}
 
 -- n pairs were taken out and so many stale entries discarded, so that what is to be done is what was to be done at first, but
@@ -177,9 +178,6 @@ module _ {ws ws₁ : List ℕ} {b b₁ : Expiring} {t : Tick} {n s left : ℕ} (
   }
 
 -- ---- at its end it follows the model
-count-accepted : (n : ℕ) → Accepted (answers.Count n)
-count-accepted n why e = let z : _≡_ {A = ℕ} 0 1 = cc in omega arith
-
 purge-follows : {ws ws′ : List ℕ} {b b′ : Expiring} {t : Tick} (n stale : ℕ) → limitsOf (capacityOf b) (limitOf b) (length ws) ≡ Done → Moved ws b (dropExpired t) (withoutExpired t (deadlinesOf ws b)) ws′ b′ (saturatingSum n stale) → (IsBook ws b → n ≡ expiredCount t (deadlinesOf ws b)) → Following ws b t purgeExpired ws′ (purging b′ n stale)
 unfolding modelOf changeOf storedAfter expiredBy answered badNanos
 purge-follows {ws = ws} {b = b} {t = t} n stale limits moved count =

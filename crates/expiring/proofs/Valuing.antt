@@ -27,12 +27,11 @@ use Rattle.expiration_index.specs.Answers.{ofDeadline}
 use Rattle.expiration_index.specs.Index as index
 use Rattle.expiration_index.specs.Calls as calls
 use Rattle.expiring.specs.declared.answers.Answer.{Answer}
-use Rattle.expiring.specs.declared.answers.Answer.the-variants as answers
 use Rattle.expiring.specs.declared.expiring.Expiring.{Expiring}
-use Rattle.expiring.specs.Model.{Change, keep, set, valueIn, pairsAfter}
+use Rattle.expiring.specs.Model.{keep, set, valueIn, pairsAfter}
 use Rattle.expiring.specs.Discards.{discards, heapAfter}
-use Rattle.expiring.specs.Book.{start, Room, capacityOf, limitOf, rest, IsBook, heapOf}
-use Rattle.expiring.specs.Steps.{ofFound, isAccepted, withList, withIndex, storedOf, deadlinesOf, same, Dating, Valuing}
+use Rattle.expiring.specs.Book.{start, Room, capacityOf, limitOf, IsBook, heapOf}
+use Rattle.expiring.specs.Steps.{ofFound, isAccepted, withList, withIndex, storedOf, deadlinesOf, Dating, Valuing}
 use Rattle.expiring.proofs.Moving.{moved-list, lent, back, lent-is, lent-index, moved-index}
 use Rattle.expiring.proofs.Acting.{Accepted}
 

@@ -19,7 +19,6 @@ use Rattle.lazy_heap.specs.Model as heap
 use Rattle.fast_lru.specs.Refusals.{blank}
 use Rattle.expiration_index.specs.Index.{factor}
 use Rattle.expiration_index.specs.Calls.{noIndex}
-use Rattle.expiring.specs.declared.answers.Answer.{Answer}
 use Rattle.expiring.specs.declared.answers.Answer.the-variants as answers
 use Rattle.expiring.specs.declared.answers.Reply.{Reply}
 use Rattle.expiring.specs.declared.expiring.Expiring.{Expiring}
@@ -28,7 +27,7 @@ use Rattle.expiring.specs.declared.expiring.DefaultTtl.{DefaultTtl}
 use Rattle.expiring.specs.declared.expiring.DefaultTtl.the-variants as default
 use Rattle.expiring.specs.declared.expiring.DefaultDuration.{DefaultDuration}
 use Rattle.expiring.specs.declared.expiring.DefaultDuration.the-variants as asked
-use Rattle.expiring.specs.Model.{Book, Call, setTtl, fresh, badNanos, answerOf, bookAfter}
+use Rattle.expiring.specs.Model.{Call, setTtl, fresh, badNanos, answerOf, bookAfter}
 use Rattle.expiring.specs.Discards.{discardedBy, heapBy}
 use Rattle.expiring.specs.Book.{limitsOf, capacityOf, limitOf, IsBook, heapOf, modelOf, Kept}
 
@@ -59,11 +58,11 @@ pub record Following (ws : List ℕ) (b : Expiring) (t : Tick) (c : Call) (ws′
   pub kept : Kept (capacityOf b) (limitOf b) ws ws′
 
 -- ---- `open`
-abbrev byTicks : Ticked → Outcome
+abbrev pub byTicks : Ticked → Outcome
 byTicks (ticked.Ticks l) = Done
 byTicks (ticked.Refused why) = Refused why
 
-abbrev byDuration : DefaultDuration → Outcome
+abbrev pub byDuration : DefaultDuration → Outcome
 byDuration (asked.Of d) = byTicks (ticksOf d)
 byDuration asked.Nothing = Done
 
@@ -76,7 +75,7 @@ unfoldable pub openingOf : ℕ → ℕ → ℕ → DefaultDuration → Outcome
 openingOf c d size l = andThen (limitsOf c d size) (byDuration l)
 
 -- the default lifetime in ticks
-abbrev ofTicks : Ticked → DefaultTtl
+abbrev pub ofTicks : Ticked → DefaultTtl
 ofTicks (ticked.Ticks l) = default.Of l
 ofTicks (ticked.Refused why) = default.Nothing
 

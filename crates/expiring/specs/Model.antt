@@ -1,7 +1,7 @@
 -- The model: document 01, "The plain book". It is fed each call's name and arguments, and knows nothing of words, of the
 -- book's numbers or of the heap's entries.
 use mathlib.Core.Bool.{Bool, true, false, cond, not, _&&_}
-use mathlib.Core.List.{List, [], _∷_}
+use mathlib.Core.List.{[], _∷_}
 use mathlib.Core.Option.{Option, none, some}
 use Prim.Native.Nat.{ℕ, _+_, _-_, _^_, min}
 use lib.Dec.{eqb}
@@ -10,7 +10,6 @@ use Rattle.time.specs.declared.tick.Tick.{Tick}
 use Rattle.time.specs.declared.tick.Remaining.{Remaining}
 use Rattle.time.specs.declared.tick.Remaining.the-variants as remaining
 use Rattle.time.specs.declared.duration.Duration.{Duration}
-use Rattle.time.specs.declared.duration.TtlTicks.{TtlTicks}
 use Rattle.time.specs.declared.refusal.Outcome.{Outcome}
 use Rattle.time.specs.declared.refusal.Outcome.the-variants as outcome
 use Rattle.time.specs.declared.refusal.Refusal.the-variants.{InvalidNanos, KeyLimitReached}

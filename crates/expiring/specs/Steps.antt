@@ -2,11 +2,10 @@
 use mathlib.Core.Path.{_≡_}
 use mathlib.Core.Bool.{Bool, true, false, cond, not}
 use mathlib.Core.Option.{Option, none, some}
-use mathlib.Core.List.{List, []}
-use Prim.Native.Nat.{ℕ, _+_, _-_, _^_, _≤_, min}
+use mathlib.Core.List.{List}
+use Prim.Native.Nat.{ℕ, _+_, _-_, _^_, min}
 use lib.ListN.{length}
 use Rattle.time.specs.declared.tick.Tick.{Tick}
-use Rattle.time.specs.declared.tick.Remaining.{Remaining}
 use Rattle.time.specs.declared.duration.Ticked.{Ticked}
 use Rattle.time.specs.declared.duration.Ticked.the-variants as ticked
 use Rattle.time.specs.declared.refusal.Refusal.{Refusal}
@@ -90,7 +89,7 @@ isAccepted deadline.Nothing = true
 isAccepted (deadline.Refused why) = false
 
 -- ---- an opening
-abbrev byTicks : Ticked → Defaulted
+abbrev pub byTicks : Ticked → Defaulted
 byTicks (ticked.Ticks l) = defaulted.To (default.Of l)
 byTicks (ticked.Refused why) = defaulted.Refused why
 

@@ -1,4 +1,4 @@
-use mathlib.Core.Path.{sym, _∙_, ap}
+use mathlib.Core.Path.{sym, _∙_}
 use borrow.Author.Needs.{needs}
 use Rattle.expiring.proofs.expiring.default_of.Statement.{statement}
 use Rattle.expiring.proofs.expiring.default_of.Tie as tie

@@ -1,3 +1,4 @@
+use Rattle.expiring.proofs.Popping.{popping-none, popping-refused, popping-some}
 use borrow.Author.Needs.{needs}
 use Rattle.expiring.proofs.expiring.Expiring.pop_expired.Statement.{statement}
 use Rattle.expiring.proofs.expiring.Expiring.pop_expired.Tie as tie
@@ -19,8 +20,8 @@ pop-expired-spec =
     (λ c. search needs)
     (λ c. search needs)
     (λ c. search needs)
-    (λ c. ?returns)
+    (λ c. let d = c .before .before .before in let a = d .before .before .before in let w = a .before .before in let p = w .before .before .before .before in popping-some _ _ (p .before .before .before .before .pre) _ (p .pop-expired .ensures) (a .answer .given .1) (rw (w .with-index .ensures) at (d .drop-value .ensures)))
     (λ c. search needs)
-    (λ c. ?returns-2)
+    (λ c. let w = c .before .before in let p = w .before .before .before .before in rw (w .with-index .ensures) (popping-none _ _ (p .before .before .before .before .pre) _ (p .pop-expired .ensures) (c .enum-told .given .1)))
     (λ c. search needs)
-    (λ c. ?returns-3))
+    (λ c. let w = c .before .before in let p = w .before .before .before .before in rw (w .with-index .ensures) (popping-refused _ _ (p .before .before .before .before .pre) _ (p .pop-expired .ensures) (c .enum-told2 .given .1))))

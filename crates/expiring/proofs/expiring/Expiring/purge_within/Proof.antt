@@ -1,72 +1,17 @@
+use native.Mathlib.Omega.{arith}
+use mathlib.Core.Path.{refl, _∙_}
+use borrow.Author.Needs.{needs}
+use Rattle.binary_heap.proofs.Limits.{unfit, fitting}
+use Rattle.expiring.proofs.Limits.{room-limits}
+use Rattle.expiring.proofs.PurgeLoop.{Progress, progress-none, progress-room, progress-more, purge-ends, purge-spent}
 use Rattle.expiring.proofs.expiring.Expiring.purge_within.Statement.{statement}
 use Rattle.expiring.proofs.expiring.Expiring.purge_within.Tie as tie
-use Rattle.expiring.proofs.expiring.Expiring.purge_within.Reads as reads
-use Rattle.expiring.proofs.expiring.Expiring.purge_within.Lts as lts
-use Rattle.expiring.proofs.expiring.Expiring.pop_expired.Reads as pop-expired-reads
-use Rattle.expiring.proofs.expiring.Expiring.purged.Reads as purged-reads
-use Rattle.expiring.proofs.expiring.saturating_sum.Reads as saturating-sum-reads
 
 abbrev Inv-loop : tie.InvT-loop
-Inv-loop words₀ tick book₀ count₀ stale₀ left₀ words book count stale left = ?
+Inv-loop words₀ tick book₀ count₀ stale₀ left₀ words book count stale left = Progress words₀ book₀ tick words book count stale left
 
 abbrev μ-loop : tie.MeasureT-loop
-μ-loop words₀ tick book₀ count₀ stale₀ left₀ words book count stale left = ?
-
--- src/expiring.rt:882:24
-add-left : tie.Need-add-left Inv-loop μ-loop
-add-left c = ?
-
--- src/expiring.rt:883:9
-loop-holds : tie.Need-loop-holds Inv-loop μ-loop
-loop-holds c = ?
-
--- src/expiring.rt:884:17
-pop-expired-requires : tie.Need-pop-expired-requires Inv-loop μ-loop
-pop-expired-requires c κs = ?
-
--- src/expiring.rt:886:13
-saturating-sum-requires : tie.Need-saturating-sum-requires Inv-loop μ-loop
-saturating-sum-requires c κs = ?
-
--- src/expiring.rt:888:17
-purged-requires : tie.Need-purged-requires Inv-loop μ-loop
-purged-requires c κs = ?
-
--- src/expiring.rt:888:17
-same-length : tie.Need-same-length Inv-loop μ-loop
-same-length c = ?
-
--- src/expiring.rt:888:17
-returns : tie.Need-returns Inv-loop μ-loop
-returns c = ?
-
--- src/expiring.rt:890:13
-add-count : tie.Need-add-count Inv-loop μ-loop
-add-count c = ?
-
--- src/expiring.rt:891:13
-sub-left : tie.Need-sub-left Inv-loop μ-loop
-sub-left c = ?
-
--- src/expiring.rt:883:9
-loop-less : tie.Need-loop-less Inv-loop μ-loop
-loop-less c = ?
-
--- src/expiring.rt:883:9
-loop-again : tie.Need-loop-again Inv-loop μ-loop
-loop-again c = ?
-
--- src/expiring.rt:893:9
-purged-requires-2 : tie.Need-purged-requires-2 Inv-loop μ-loop
-purged-requires-2 c κs = ?
-
--- src/expiring.rt:875:5
-same-length-2 : tie.Need-same-length-2 Inv-loop μ-loop
-same-length-2 c = ?
-
--- src/expiring.rt:875:5
-returns-2 : tie.Need-returns-2 Inv-loop μ-loop
-returns-2 c = ?
+μ-loop words₀ tick book₀ count₀ stale₀ left₀ words book count stale left = left
 
 pub purge-within-spec : {M : Type 1} → statement M
 purge-within-spec =
@@ -74,17 +19,26 @@ purge-within-spec =
     (tie.spec
     Inv-loop
     μ-loop
-    add-left
-    loop-holds
-    pop-expired-requires
-    saturating-sum-requires
-    purged-requires
-    same-length
-    returns
-    add-count
-    sub-left
-    loop-less
-    loop-again
-    purged-requires-2
-    same-length-2
-    returns-2)
+    (λ c. search needs)
+    (λ c. progress-none _ _ _)
+    (λ c κs. progress-room (c .before .before .loop .inv) (c .before .before .before .before .before .pre))
+    (λ c κs. search needs)
+    (λ c κs. search needs)
+    (λ c. let p = c .before .before .before .before .before .before .before in p .pop-expired .ensures .kept .size ∙ p .before .before .before .loop .inv .kept .size)
+    (λ c.
+    let i = c .before in
+    let u = i .before .before in
+    let p = u .before .before .before .before in
+    let l = p .before .before .before in
+    rw (c .purged .ensures, u .saturating-sum .ensures) (purge-ends (room-limits (l .before .before .before .pre)) (l .loop .inv) (p .pop-expired .ensures) (unfit refl (i .if1 .taken))))
+    (λ c. let l = c .before .before .before .before .before .before .before .before .before in omega (arith, l .loop .inv .rounds, l .before .before .before .pre .limit))
+    (λ c. search needs)
+    (λ c. search needs)
+    (λ c.
+    let u = c .before .before in
+    let p = u .before .before .before .before in
+    let l = p .before .before .before in
+    rw (u .saturating-sum .ensures) (progress-more (l .loop .inv) (p .pop-expired .ensures) (fitting refl (c .if1 .left)) (p .before .before .loop-test .taken)))
+    (λ c κs. search needs)
+    (λ c. c .before .before .loop .inv .kept .size)
+    (λ c. let l = c .before .before in rw (c .purged2 .ensures) (purge-spent (room-limits (l .before .before .before .pre)) (l .loop .inv) (omega (arith, c .before .loop-test .left)))))

@@ -1,4 +1,4 @@
-use mathlib.Core.Path.{refl, sym, _∙_}
+use mathlib.Core.Path.{sym, _∙_}
 use native.Mathlib.Omega.{arith}
 use Rattle.expiring.proofs.Acting.{follow-limits}
 use Rattle.expiring.proofs.Following.{follow-rank}

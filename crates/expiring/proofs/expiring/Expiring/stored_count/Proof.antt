@@ -1,4 +1,3 @@
-use mathlib.Core.Path.{refl, sym, ap, _∙_}
 use Rattle.expiring.proofs.Asking.{count-stored, count-refused}
 use borrow.Author.Needs.{needs}
 use Rattle.expiring.proofs.expiring.Expiring.stored_count.Statement.{statement}
