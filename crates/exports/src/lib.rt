@@ -1,20 +1,48 @@
-// The map's calls for Rust and C, many at a time.
+// The layers' calls for Rust and C, a list of them at a time.
 //
-// A call is four words: operation, key, first, second. Where an operation takes a slot or a capacity, the key's word is
-// it. An answer is four words: a code, and three of payload, a record's or a slot and zeros.
-//
-//   operation  call             operation  call
-//   0          open             7          record
-//   1          clear            8          first
-//   2          touch            9          last
-//   3          set_payload      10         next
-//   4          put              11         previous
-//   5          remove           12         check
-//   6          find             other      none, answered by a code of its own
-//
-// specs/Answers.antt has the codes.
-mod answer;
-mod call;
-mod replay;
+// Each function runs a list of calls on lent words and on a layer's few numbers, writes the answers, and says how many
+// calls it ran: as many as have room for an answer, or none where there are too few numbers. The crate `replay` says what
+// calls and answers are in words; a layer's operations and numbers stand in its `replay_` crate.
+ghost use Rattle.replay.specs.Runs.{Replayed};
+ghost use Rattle.replay_linked_hash_map.specs.Numbers.{mapIn};
+ghost use Rattle.replay_linked_hash_map.specs.Steps as map;
+ghost use Rattle.replay_fast_lru.specs.Numbers.{lruIn};
+ghost use Rattle.replay_fast_lru.specs.Steps as lru;
+ghost use Rattle.replay_lazy_heap.specs.Numbers.{heapIn};
+ghost use Rattle.replay_lazy_heap.specs.Steps as heap;
 
-pub use replay::linked_hash_map_replay;
+#[no_mangle]
+pub extern "C" fn linked_hash_map_replay(
+    numbers: &mut [u64],
+    words: &mut [u64],
+    calls: &[u64],
+    answers: &mut [u64],
+) -> u64
+    ensures { λ r. ⌜ Replayed 3 mapIn map.Ran (now (numbers .entry)) (now (words .entry)) (now (calls .entry)) (now (answers .entry)) (now (numbers .exit)) (now (words .exit)) (now (answers .exit)) r ⌝ }
+{
+    replay_linked_hash_map::replay(numbers, words, calls, answers)
+}
+
+#[no_mangle]
+pub extern "C" fn fast_lru_replay(
+    numbers: &mut [u64],
+    words: &mut [u64],
+    calls: &[u64],
+    answers: &mut [u64],
+) -> u64
+    ensures { λ r. ⌜ Replayed 3 lruIn lru.Ran (now (numbers .entry)) (now (words .entry)) (now (calls .entry)) (now (answers .entry)) (now (numbers .exit)) (now (words .exit)) (now (answers .exit)) r ⌝ }
+{
+    replay_fast_lru::replay(numbers, words, calls, answers)
+}
+
+#[no_mangle]
+pub extern "C" fn lazy_heap_replay(
+    numbers: &mut [u64],
+    words: &mut [u64],
+    calls: &[u64],
+    answers: &mut [u64],
+) -> u64
+    ensures { λ r. ⌜ Replayed 6 heapIn heap.Ran (now (numbers .entry)) (now (words .entry)) (now (calls .entry)) (now (answers .entry)) (now (numbers .exit)) (now (words .exit)) (now (answers .exit)) r ⌝ }
+{
+    replay_lazy_heap::replay(numbers, words, calls, answers)
+}

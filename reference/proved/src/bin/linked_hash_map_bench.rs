@@ -4,14 +4,12 @@
 //! every contestant once, one after the other, and a figure is the median over the rounds.
 
 use cachekit::policy::fast_lru::FastLru;
-use proved::linked_hash_map::{Answer, Call, LinkedHashMap, Record, replay_words};
-use splitmix64::SplitMix64;
+use proved::linked_hash_map::{Call, LinkedHashMap};
+use proved::replay::{Answer, Call as _, Record};
+use samples::splitmix64::SplitMix64;
 use std::collections::HashMap;
 use std::hint::black_box;
 use std::time::Instant;
-
-#[path = "../../../samples/src/splitmix64.rs"]
-mod splitmix64;
 
 const ROUNDS: usize = 101;
 const WARM_UP_ROUNDS: usize = 3;
@@ -27,7 +25,7 @@ trait Contestant {
 impl Contestant for LinkedHashMap {
     fn run(&mut self, calls: &[Words], answers: &mut Vec<Words>) {
         answers.resize(calls.len(), [0; 4]);
-        replay_words(
+        Call::replay(
             &mut self.numbers,
             &mut self.words,
             calls.as_flattened(),
