@@ -1,4 +1,5 @@
-// The recency list's calls, many at a time. Calls and answers are in words, as the crate `replay` has them.
+// The recency list's calls for Rust and C, a list of them at a time. The crate `replay` says what calls and answers are
+// in words.
 //
 //   operation  call                 operation  call
 //   0          new, capacity        8          contains, key
@@ -15,4 +16,4 @@ mod answer;
 mod call;
 mod list;
 
-pub use list::replay;
+pub use list::fast_lru_replay;

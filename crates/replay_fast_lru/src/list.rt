@@ -10,7 +10,13 @@ use fast_lru::FastLru;
 
 // Runs the calls on the words, and on the list's numbers. Says how many calls it ran: as many as have room for an answer,
 // or none where there are fewer than three numbers.
-pub fn replay(numbers: &mut [u64], words: &mut [u64], calls: &[u64], answers: &mut [u64]) -> u64
+#[no_mangle]
+pub extern "C" fn fast_lru_replay(
+    numbers: &mut [u64],
+    words: &mut [u64],
+    calls: &[u64],
+    answers: &mut [u64],
+) -> u64
     ensures { λ r. ⌜ Replayed 3 lruIn Ran (now (numbers .entry)) (now (words .entry)) (now (calls .entry)) (now (answers .entry)) (now (numbers .exit)) (now (words .exit)) (now (answers .exit)) r ⌝ }
 {
     if numbers.len() < 3 {

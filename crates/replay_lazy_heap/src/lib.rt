@@ -1,4 +1,5 @@
-// The heap's calls, many at a time. Calls and answers are in words, as the crate `replay` has them.
+// The heap's calls for Rust and C, a list of them at a time. The crate `replay` says what calls and answers are
+// in words.
 //
 //   operation  call                         operation  call
 //   0          open, limit, factor, seq     8          renumber_seqs
@@ -15,4 +16,4 @@ mod answer;
 mod call;
 mod list;
 
-pub use list::replay;
+pub use list::lazy_heap_replay;

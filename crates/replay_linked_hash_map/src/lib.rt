@@ -1,4 +1,5 @@
-// The map's calls, many at a time. Calls and answers are in words, as the crate `replay` has them.
+// The map's calls for Rust and C, a list of them at a time. The crate `replay` says what calls and answers are
+// in words.
 //
 //   operation  call                        operation  call
 //   0          open, capacity              7          record, slot
@@ -15,6 +16,6 @@ mod call;
 mod list;
 mod numbers;
 
-pub use list::replay;
+pub use list::linked_hash_map_replay;
 pub use numbers::map_in;
 pub use numbers::store_map;

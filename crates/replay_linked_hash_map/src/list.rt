@@ -10,7 +10,13 @@ use linked_hash_map::LinkedHashMap;
 
 // Runs the calls on the words, and on the map's numbers. Says how many calls it ran: as many as have room for an answer,
 // or none where there are fewer than three numbers.
-pub fn replay(numbers: &mut [u64], words: &mut [u64], calls: &[u64], answers: &mut [u64]) -> u64
+#[no_mangle]
+pub extern "C" fn linked_hash_map_replay(
+    numbers: &mut [u64],
+    words: &mut [u64],
+    calls: &[u64],
+    answers: &mut [u64],
+) -> u64
     ensures { λ r. ⌜ Replayed 3 mapIn Ran (now (numbers .entry)) (now (words .entry)) (now (calls .entry)) (now (answers .entry)) (now (numbers .exit)) (now (words .exit)) (now (answers .exit)) r ⌝ }
 {
     if numbers.len() < 3 {

@@ -1,4 +1,4 @@
-//! The functions of crates/exports, and the only unsafe code of this package.
+//! The exported functions of the `replay_` crates, and the only unsafe code of this package.
 
 macro_rules! replays {
     ($($safe:ident is $exported:ident)*) => {

@@ -33,10 +33,10 @@ fn cause(call: Call, numbers: &[u64; 6], words: usize) -> Option<u64> {
 }
 
 impl Junk {
-    /// Keys held, or entries. Walks take as many turns as these say, on numbers of no heap too, so
-    /// that a call would end, but not today, with the largest ones.
-    fn walked(&mut self, limit: u64) -> u64 {
-        self.count(limit).min(5000)
+    /// Keys held, or entries, of a heap that may have so many, or some more. Walks take as many
+    /// turns as these numbers say, so that calls on the largest ones would end, but not today.
+    fn walked(&mut self, most: u64) -> u64 {
+        self.count(most).min(most.saturating_add(200)).min(40_000)
     }
 
     fn heap_numbers(&mut self, limit: u64) -> [u64; 6] {

@@ -113,14 +113,14 @@ fn small_heaps() {
         for factor in 0..=8 {
             for seq in starts(&mut random) {
                 let run = Run::new(random.next(), limit, factor, seq);
-                tally += run.run(25, 250, false);
+                tally += run.run(50, 300, false);
             }
         }
     }
-    assert!(1_500_000 < tally.calls, "{tally:?}");
+    assert!(3_500_000 < tally.calls, "{tally:?}");
     assert!(100 < tally.renumberings, "{tally:?}");
     assert!(
-        20_000 < tally.full.min(tally.discards).min(tally.stale),
+        50_000 < tally.full.min(tally.discards).min(tally.stale),
         "{tally:?}"
     );
 }
@@ -129,7 +129,7 @@ fn small_heaps() {
 fn middling_heaps() {
     let mut random = SplitMix64(2);
     let mut tally = Tally::default();
-    for (limit, calls) in [(256, 4000), (1000, 6000)] {
+    for (limit, calls) in [(256, 8000), (1000, 12_000)] {
         for factor in [0, 1, 2, 3, 8] {
             for seq in starts(&mut random) {
                 let run = Run::new(random.next(), limit, factor, seq);
@@ -150,7 +150,7 @@ fn largest_heaps() {
     for factor in [2, 3, 8] {
         for seq in starts(&mut random) {
             let run = Run::new(random.next(), 4096, factor, seq);
-            tally += run.run(10, 12_000, true);
+            tally += run.run(20, 12_000, true);
         }
     }
     // A rebuild at nearly every update.

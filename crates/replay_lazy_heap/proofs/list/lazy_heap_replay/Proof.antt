@@ -9,8 +9,8 @@ use lib.Seq.{getD-set-other}
 use borrow.Author.Needs.{needs}
 use Rattle.lazy_heap.specs.declared.heap.LazyMinHeap.{LazyMinHeap}
 use Rattle.replay_lazy_heap.specs.Numbers.{heapIn, withHeap}
-use Rattle.replay_lazy_heap.proofs.list.replay.Statement.{statement}
-use Rattle.replay_lazy_heap.proofs.list.replay.Tie as tie
+use Rattle.replay_lazy_heap.proofs.list.lazy_heap_replay.Statement.{statement}
+use Rattle.replay_lazy_heap.proofs.list.lazy_heap_replay.Tie as tie
 
 stored : (ns : List ℕ) (h : LazyMinHeap) → 6 ≤ length ns → heapIn (withHeap ns h) ≡ h
 stored [] h q = absurd (omega arith)
@@ -31,8 +31,8 @@ past ns h j q =
     let f : j ≢ 5 = omega arith in
     simp getD-set-other
 
-pub replay-spec : {M : Type 1} → statement M
-replay-spec =
+pub lazy-heap-replay-spec : {M : Type 1} → statement M
+lazy-heap-replay-spec =
     tie.close
     (tie.spec
     (λ c. record { few = λ _. (refl, refl, refl, refl); count = λ h. absurd (omega arith); run = λ h. absurd (omega arith); past = λ _ _. refl })
