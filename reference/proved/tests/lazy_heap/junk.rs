@@ -33,18 +33,18 @@ fn cause(call: Call, numbers: &[u64; 6], words: usize) -> Option<u64> {
 }
 
 impl Junk {
-    /// Keys held, or entries, of a heap that may have so many, or some more. Walks take as many
-    /// turns as these numbers say, so that calls on the largest ones would end, but not today.
-    fn walked(&mut self, most: u64) -> u64 {
-        self.count(most).min(most.saturating_add(200)).min(40_000)
+    /// Keys held. `rebuild` and `renumber_seqs` take as many turns as this number says, so that on
+    /// the largest ones they would end, but not today.
+    fn held(&mut self, limit: u64, most: u64) -> u64 {
+        self.count(limit).min(most)
     }
 
     fn heap_numbers(&mut self, limit: u64) -> [u64; 6] {
         [
             limit,
-            self.walked(limit),
+            self.held(limit, 300),
             self.number(),
-            self.walked(limit.saturating_mul(9)),
+            self.count(limit.saturating_mul(9)),
             self.number(),
             self.count(MAX_FACTOR),
         ]
@@ -67,7 +67,7 @@ impl Junk {
         }
         if self.below(2) == 0 {
             let at = self.below(6) as usize;
-            heap.numbers[at] = self.walked(limit);
+            heap.numbers[at] = self.held(limit, 300);
         }
         let size = self.size(words_for(limit));
         self.damage(&mut heap.words, limit, size);
@@ -80,7 +80,11 @@ impl Junk {
             return self.damaged_heap(limit);
         }
         let limit = self.limit();
-        let size = self.size(words_for(limit.min(MAX_LIMIT)));
+        let enough = match limit {
+            0..=MAX_LIMIT => words_for(limit),
+            _ => words_for(4),
+        };
+        let size = self.size(enough);
         (self.heap_numbers(limit), self.words(limit, size))
     }
 
@@ -214,10 +218,11 @@ fn every_operation_on_any_words() {
 #[test]
 fn the_largest_heaps_of_junk() {
     let mut junk = Junk(SplitMix64(2));
-    for _ in 0..100 {
+    for _ in 0..50 {
         let limit = junk.pick(&[4095, 4096, 4096, 4097]);
         let size = junk.size(words_for(limit.min(MAX_LIMIT)));
         let mut numbers = junk.heap_numbers(limit);
+        numbers[1] = junk.held(limit, 5000);
         let mut words = Guarded::new(&junk.words(limit, size));
         for _ in 0..8 {
             call_on_junk(&mut numbers, &mut words, junk.heap_call());
