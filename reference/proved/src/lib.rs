@@ -1,4 +1,7 @@
 //! The proved crates, called from Rust.
 
 mod exports;
+pub mod fast_lru;
+pub mod lazy_heap;
 pub mod linked_hash_map;
+pub mod replay;

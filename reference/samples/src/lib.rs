@@ -3,7 +3,7 @@
 use std::path::{Path, PathBuf};
 
 pub mod clock;
-mod splitmix64;
+pub mod splitmix64;
 
 /// The folder of the recorded questions (`stdin`) and answers (`stdout`) of [`clock`].
 pub fn clock_folder() -> PathBuf {

@@ -3,8 +3,9 @@
 
 use crate::layout::{cell_count, keys_at_home, read_map};
 use crate::model::Model;
-use crate::splitmix64::SplitMix64;
-use proved::linked_hash_map::{Answer, Call, LinkedHashMap, Record};
+use proved::linked_hash_map::{Call, LinkedHashMap};
+use proved::replay::{Answer, Record};
+use samples::splitmix64::SplitMix64;
 
 /// A map with records, free ones and tombstones, its keys in clusters, one of them round the end.
 fn map(random: &mut SplitMix64, capacity: u64) -> LinkedHashMap {

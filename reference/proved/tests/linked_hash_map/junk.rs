@@ -2,124 +2,37 @@
 //! exactly where the capacity is too large or the words are too few.
 
 use crate::layout::fits;
-use crate::splitmix64::SplitMix64;
-use proved::linked_hash_map::{
-    Answer, Call, LinkedHashMap, MAX_CAPACITY, Record, replay, replay_words, words_for,
-};
-
-const GUARD: u64 = 0xa5a5_5a5a_c3c3_3c3c;
-const GUARDS: usize = 64;
-
-/// Words between guards, which are looked at after every call.
-struct Guarded {
-    all: Vec<u64>,
-}
-
-impl Guarded {
-    fn new(words: &[u64]) -> Self {
-        let guards = [GUARD; GUARDS];
-        Self {
-            all: [&guards, words, &guards].concat(),
-        }
-    }
-
-    fn lent(&mut self) -> &mut [u64] {
-        let end = self.all.len() - GUARDS;
-        &mut self.all[GUARDS..end]
-    }
-
-    fn assert_guards(&self) {
-        let (before, rest) = self.all.split_at(GUARDS);
-        let after = &rest[rest.len() - GUARDS..];
-        assert!(before.iter().chain(after).all(|&word| word == GUARD));
-    }
-}
-
-struct Junk(SplitMix64);
+use crate::shared::guarded::Guarded;
+use crate::shared::junk::Junk;
+use crate::shared::lists;
+use proved::linked_hash_map::{Call, LinkedHashMap, MAX_CAPACITY, words_for};
+use proved::replay::{Answer, Record, replay};
+use samples::splitmix64::SplitMix64;
 
 impl Junk {
-    fn pick<T: Copy>(&mut self, of: &[T]) -> T {
-        of[self.0.below(of.len() as u64) as usize]
+    fn map_numbers(&mut self, capacity: u64) -> [u64; 3] {
+        [capacity, self.count(capacity), self.number()]
     }
 
-    fn number(&mut self) -> u64 {
-        match self.0.below(5) {
-            0 | 1 => self.0.below(12),
-            2 => self.pick(&[
-                4095,
-                4096,
-                4097,
-                65535,
-                65536,
-                1 << 32,
-                1 << 61,
-                (1 << 61) - 8,
-                1 << 63,
-                u64::MAX - 1,
-                u64::MAX,
-            ]),
-            3 => self.0.next() >> self.0.below(64),
-            _ => self.0.next(),
-        }
-    }
-
-    fn capacity(&mut self) -> u64 {
-        match self.0.below(10) {
-            0 => self.number(),
-            1 => self.pick(&[64, 100, 257]),
-            _ => self.0.below(9),
-        }
-    }
-
-    fn numbers(&mut self, capacity: u64) -> [u64; 3] {
-        let len = match self.0.below(3) {
-            0 => self.number(),
-            _ => self.0.below(capacity.saturating_add(2)),
-        };
-        [capacity, len, self.number()]
-    }
-
-    /// As many as the capacity asks for, or one less, or some more, or any small number.
-    fn count(&mut self, capacity: u64) -> usize {
-        let enough = words_for(capacity.min(MAX_CAPACITY));
-        match self.0.below(6) {
-            0 => enough - 1,
-            1 => enough + 1 + self.0.below(20) as usize,
-            2 => self.0.below(200) as usize,
-            _ => enough,
-        }
-    }
-
-    fn words(&mut self, capacity: u64, count: usize) -> Vec<u64> {
-        match self.0.below(4) {
-            0 => (0..count).map(|_| self.0.next()).collect(),
-            1 => (0..count)
-                .map(|_| self.0.below(capacity.min(9) + 4))
-                .collect(),
-            2 => (0..count).map(|_| self.number()).collect(),
-            _ => self.damaged(capacity.min(9), count),
+    fn map_words(&mut self, capacity: u64) -> Vec<u64> {
+        let size = self.size(words_for(capacity.min(MAX_CAPACITY)));
+        match self.below(4) {
+            0 => self.damaged_map(capacity.min(9), size),
+            _ => self.words(capacity, size),
         }
     }
 
     /// A map with some of its words overwritten.
-    fn damaged(&mut self, capacity: u64, count: usize) -> Vec<u64> {
+    fn damaged_map(&mut self, capacity: u64, size: usize) -> Vec<u64> {
         let mut map = LinkedHashMap::new(capacity);
         for _ in 0..3 * capacity {
-            let key = self.0.below(2 * capacity);
-            match self.0.below(4) {
+            let key = self.below(2 * capacity);
+            match self.below(4) {
                 0 => map.call(Call::Remove(key)),
                 _ => map.call(Call::Put(self.record(key))),
             };
         }
-        for _ in 0..self.0.below(5) {
-            let at = self.0.below(map.words.len() as u64) as usize;
-            map.words[at] = match self.0.below(3) {
-                0 => map.words[at] ^ 1 << self.0.below(64),
-                1 => self.0.below(capacity + 4),
-                _ => self.number(),
-            };
-        }
-        map.words.resize(count, self.0.next());
+        self.damage(&mut map.words, capacity, size);
         map.words
     }
 
@@ -131,11 +44,11 @@ impl Junk {
         }
     }
 
-    fn call(&mut self) -> Call {
+    fn map_call(&mut self) -> Call {
         let key = self.number();
         let record = self.record(key);
-        match self.0.below(14) {
-            0 => Call::Open(self.capacity()),
+        match self.below(14) {
+            0 => Call::Open(self.limit()),
             1 => Call::Clear,
             2 => Call::Touch(key),
             3 => Call::SetPayload(record),
@@ -148,7 +61,7 @@ impl Junk {
             10 => Call::Next(key),
             11 => Call::Previous(key),
             12 => Call::Check,
-            _ => Call::Other(13 + (self.0.next() >> self.0.below(64)).saturating_sub(13)),
+            _ => Call::Other(self.no_operation(13)),
         }
     }
 }
@@ -202,7 +115,7 @@ fn is_refused(call: Call, answer: Answer, fits: bool) -> bool {
         Call::SetPayload(_) | Call::Check => answer == Answer::No && !fits,
         Call::Record(_) => answer == Answer::Record(Record::default()) && !fits,
         Call::Other(_) => answer == Answer::Unknown && !fits,
-        _ => answer == Answer::Refused,
+        _ => answer == Answer::Refused(0),
     }
 }
 
@@ -210,12 +123,11 @@ fn is_refused(call: Call, answer: Answer, fits: bool) -> bool {
 fn every_operation_on_any_words() {
     let mut junk = Junk(SplitMix64(1));
     for _ in 0..60_000 {
-        let capacity = junk.capacity();
-        let count = junk.count(capacity);
-        let mut numbers = junk.numbers(capacity);
-        let mut words = Guarded::new(&junk.words(capacity, count));
-        for _ in 0..1 + junk.0.below(12) {
-            call_on_junk(&mut numbers, &mut words, junk.call());
+        let capacity = junk.limit();
+        let mut numbers = junk.map_numbers(capacity);
+        let mut words = Guarded::new(&junk.map_words(capacity));
+        for _ in 0..1 + junk.below(12) {
+            call_on_junk(&mut numbers, &mut words, junk.map_call());
         }
     }
 }
@@ -225,11 +137,10 @@ fn the_largest_maps_of_junk() {
     let mut junk = Junk(SplitMix64(2));
     for _ in 0..150 {
         let capacity = junk.pick(&[4095, 4096, 4096, 4097]);
-        let count = junk.count(capacity);
-        let mut numbers = junk.numbers(capacity);
-        let mut words = Guarded::new(&junk.words(capacity, count));
+        let mut numbers = junk.map_numbers(capacity);
+        let mut words = Guarded::new(&junk.map_words(capacity));
         for _ in 0..8 {
-            call_on_junk(&mut numbers, &mut words, junk.call());
+            call_on_junk(&mut numbers, &mut words, junk.map_call());
         }
     }
 }
@@ -251,29 +162,7 @@ fn words_too_few_by_one() {
     assert_eq!(opening, [Answer::No]);
 }
 
-/// Lists of any length: as many calls run as have room for an answer, and no other word is written.
 #[test]
 fn lists_of_any_length() {
-    let mut junk = Junk(SplitMix64(3));
-    for _ in 0..20_000 {
-        let capacity = junk.0.below(4);
-        let mut words = Guarded::new(&vec![7; words_for(capacity)]);
-        let mut numbers: Vec<u64> = vec![GUARD; junk.0.below(6) as usize];
-        let calls: Vec<u64> = (0..junk.0.below(40)).map(|_| junk.0.below(14)).collect();
-        let mut answers = Guarded::new(&vec![GUARD; junk.0.below(40) as usize]);
-
-        let ran = replay_words(&mut numbers, words.lent(), &calls, answers.lent());
-        words.assert_guards();
-        answers.assert_guards();
-        let room = calls.len().min(answers.lent().len()) / 4;
-        let expected = if numbers.len() < 3 { 0 } else { room };
-        assert_eq!(ran as usize, expected);
-        let past = &answers.lent()[4 * expected..];
-        assert!(past.iter().all(|&word| word == GUARD));
-        assert!(numbers.iter().skip(3).all(|&number| number == GUARD));
-        if numbers.len() < 3 {
-            assert!(numbers.iter().all(|&number| number == GUARD));
-            assert!(words.lent().iter().all(|&word| word == 7));
-        }
-    }
+    lists::of_any_length::<Call>(13, words_for);
 }

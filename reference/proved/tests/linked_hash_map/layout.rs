@@ -1,8 +1,9 @@
 //! Where a map's words are (crates/linked_hash_map/src/lib.rt, crates/cells/specs/Cells.antt), and
 //! what it takes to be a map (crates/linked_hash_map/specs/Map.antt), told a second time in Rust.
 
-use crate::splitmix64::SplitMix64;
-use proved::linked_hash_map::{MAX_CAPACITY, Record, words_for};
+use proved::linked_hash_map::{MAX_CAPACITY, words_for};
+use proved::replay::Record;
+use samples::splitmix64::SplitMix64;
 
 pub fn fits(capacity: u64, words: usize) -> bool {
     capacity <= MAX_CAPACITY && words_for(capacity) <= words

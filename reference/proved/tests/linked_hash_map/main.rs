@@ -5,5 +5,5 @@ mod junk;
 mod layout;
 mod model;
 mod random;
-#[path = "../../../samples/src/splitmix64.rs"]
-mod splitmix64;
+#[path = "../shared/mod.rs"]
+mod shared;

@@ -2,7 +2,8 @@
 //! from the first answer that tells one.
 
 use crate::layout::read_map;
-use proved::linked_hash_map::{Answer, Call, LinkedHashMap, Record};
+use proved::linked_hash_map::{Call, LinkedHashMap};
+use proved::replay::{Answer, Record};
 use std::collections::HashMap;
 
 pub struct Model {
@@ -50,7 +51,7 @@ impl Model {
                 if let Some(place) = place {
                     self.records[place] = record;
                 }
-                assert_eq!(answer, yes_or_no(place.is_some()), "{call:?}");
+                assert_eq!(answer, Answer::from_bool(place.is_some()), "{call:?}");
             }
             Call::Put(record) => assert_eq!(answer, self.put(record), "{call:?}"),
             Call::Remove(key) => {
@@ -116,7 +117,7 @@ impl Model {
         let Some(place) = place else {
             return assert_eq!(answer, Answer::Nothing, "{call:?}");
         };
-        let Answer::At(slot) = answer else {
+        let Answer::Number(slot) = answer else {
             panic!("{call:?} is answered by {answer:?}");
         };
         assert!(slot < self.capacity as u64);
@@ -141,17 +142,13 @@ impl Model {
     }
 }
 
-fn yes_or_no(yes: bool) -> Answer {
-    if yes { Answer::Yes } else { Answer::No }
-}
-
 /// The records on a walk, which has at most one more than the map has room for.
 fn walk(map: &mut LinkedHashMap, start: Call, step: impl Fn(u64) -> Call) -> Vec<Record> {
     let mut records = Vec::new();
     let mut call = start;
     for _ in 0..=map.numbers[0] {
         let slot = match map.call(call) {
-            Answer::At(slot) => slot,
+            Answer::Number(slot) => slot,
             Answer::Nothing => break,
             answer => panic!("{call:?} is answered by {answer:?}"),
         };

@@ -2,8 +2,9 @@
 
 use crate::layout::{cell_count, keys_at_home};
 use crate::model::Model;
-use crate::splitmix64::SplitMix64;
-use proved::linked_hash_map::{Call, LinkedHashMap, Record};
+use proved::linked_hash_map::{Call, LinkedHashMap};
+use proved::replay::Record;
+use samples::splitmix64::SplitMix64;
 
 /// Small keys, large ones, clusters of one home, of which one goes round the end, and random ones.
 fn keys(random: &mut SplitMix64, capacity: u64) -> Vec<u64> {

@@ -1,0 +1,75 @@
+// A list of calls.
+ghost use mathlib.Core.Path.{_≡_};
+ghost use Prim.Native.Nat.{_*_, _≤_};
+ghost use lib.ListN.{length};
+ghost use Rattle.replay.specs.Runs.{Run, Replayed};
+ghost use Rattle.replay_lazy_heap.specs.Numbers.{heapIn, withHeap};
+ghost use Rattle.replay_lazy_heap.specs.Steps.{Ran};
+use crate::call;
+use lazy_heap::LazyMinHeap;
+
+// Runs the calls on the words, and on the heap's numbers. Says how many calls it ran: as many as have room for an answer,
+// or none where there are fewer than six numbers.
+#[no_mangle]
+pub extern "C" fn lazy_heap_replay(
+    numbers: &mut [u64],
+    words: &mut [u64],
+    calls: &[u64],
+    answers: &mut [u64],
+) -> u64
+    ensures { λ r. ⌜ Replayed 6 heapIn Ran (now (numbers .entry)) (now (words .entry)) (now (calls .entry)) (now (answers .entry)) (now (numbers .exit)) (now (words .exit)) (now (answers .exit)) r ⌝ }
+{
+    if numbers.len() < 6 {
+        return 0;
+    }
+    let count = replay::room(calls, answers);
+    let heap = run(words, heap_in(numbers), calls, answers, count);
+    store_heap(numbers, heap);
+    count as u64
+}
+
+fn run(
+    words: &mut [u64],
+    heap: LazyMinHeap,
+    calls: &[u64],
+    answers: &mut [u64],
+    count: usize,
+) -> LazyMinHeap
+    requires { ⌜ (4 * count ≤ length (now calls)) × (4 * count ≤ length (now answers)) ⌝ }
+    ensures { λ r. ⌜ Run Ran (now (calls .entry)) (now (words .entry)) heap (now (answers .entry)) count (now (words .exit)) r (now (answers .exit)) ⌝ }
+{
+    let mut heap = heap;
+    let mut i = 0;
+    while i < count {
+        let reply = call::step(words, heap, replay::call_at(calls, i));
+        let answer = reply.answer;
+        replay::store_answer(answers, i, answer);
+        heap = reply.heap;
+        i += 1;
+    }
+    heap
+}
+
+fn heap_in(numbers: &[u64]) -> LazyMinHeap
+    requires { ⌜ 6 ≤ length (now numbers) ⌝ }
+    ensures { λ r. ⌜ r ≡ heapIn (now (numbers .entry)) ⌝ }
+{
+    let scores = replay_linked_hash_map::map_in(numbers);
+    LazyMinHeap {
+        scores,
+        entries: numbers[3] as usize,
+        seq: numbers[4],
+        factor: numbers[5] as usize,
+    }
+}
+
+fn store_heap(numbers: &mut [u64], heap: LazyMinHeap)
+    requires { ⌜ 6 ≤ length (now numbers) ⌝ }
+    ensures { λ _. ⌜ now (numbers .exit) ≡ withHeap (now (numbers .entry)) heap ⌝ }
+{
+    let scores = heap.scores;
+    replay_linked_hash_map::store_map(numbers, scores);
+    numbers[3] = heap.entries as u64;
+    numbers[4] = heap.seq;
+    numbers[5] = heap.factor as u64;
+}
