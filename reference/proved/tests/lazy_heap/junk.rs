@@ -27,7 +27,7 @@ fn cause(call: Call, numbers: &[u64; 6], words: usize) -> Option<u64> {
         Call::SetAutoRebuild(factor) | Call::MaybeRebuild(factor) => {
             cause_with(numbers[0], words, factor)
         }
-        Call::Other(_) => None,
+        Call::Check | Call::Other(_) => None,
         _ => cause_of(numbers[0], words),
     }
 }
@@ -88,7 +88,7 @@ impl Junk {
             0 => self.number(),
             _ => self.below(10),
         };
-        match self.below(16) {
+        match self.below(18) {
             0 => Call::Open(self.limit(), factor, self.number()),
             1 => Call::SetAutoRebuild(factor),
             2 => Call::Update(key, self.number()),
@@ -104,7 +104,9 @@ impl Junk {
             12 => Call::Len,
             13 => Call::IsEmpty,
             14 => Call::HeapLen,
-            _ => Call::Other(self.no_operation(15)),
+            15 => Call::Check,
+            16 => Call::CountAtMost(self.number()),
+            _ => Call::Other(self.no_operation(17)),
         }
     }
 }
@@ -245,5 +247,5 @@ fn refusals_at_their_edges() {
 
 #[test]
 fn lists_of_any_length() {
-    lists::of_any_length::<Call>(15, words_for);
+    lists::of_any_length::<Call>(17, words_for);
 }
