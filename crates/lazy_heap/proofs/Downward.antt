@@ -97,6 +97,10 @@ module _ {ws : List ℕ} {m : LinkedHashMap} {score n left s : ℕ} (c : Countin
         omega (arith, c .counted is, q, e);
   }
 
+-- no map holds more than its capacity
+pub counting-none : (ws : List ℕ) (m : LinkedHashMap) (score : ℕ) → m .capacity < m .len → CountingAtMost ws m score 0
+counting-none ws m score over = record { answer = λ is. absurd (omega (arith, is .count)) }
+
 pub counting-end : {ws : List ℕ} {m : LinkedHashMap} {score n left s : ℕ} → Counting ws m score n left s → left ≤ 0 → CountingAtMost ws m score n
 unfolding countAtMost
 counting-end {ws} {m} {score} {n} {left} c none = record { answer = λ is. omega (arith, c .counted is, ap (countAtMost score) (none-ahead ws m left none) ∙ nothing) }

@@ -36,6 +36,7 @@ use Rattle.lazy_heap.specs.Model.{Heap, entryOf, atLeastOne, liveEntries
 use Rattle.lazy_heap.specs.Heap.{heldOf, entriesOf, modelOf, Parts}
 use Rattle.lazy_heap.specs.Steps.{after, replacedScore, Crowding, Pushing, Rebuilding, Numbered, Renumbering, Fitting, Trimming, Holding}
 use Rattle.lazy_heap.proofs.Parts.{part-same}
+use Rattle.lazy_heap.proofs.Settling.{entered-same}
 use Rattle.lazy_heap.proofs.Refilling.{Refilling, Numbering}
 
 abbrev of : ℕ → ℕ → ℕ → List Record → List Entry → Heap
@@ -69,7 +70,19 @@ rebuilding {ws} h {r} {left} f none = record {
   entries = λ p. let z : left ≡ 0 = omega arith in f .filled (parts-emptied p) ∙ ap (λ (i : ℕ). sort (map entryOf (drop i (heldOf ws h)))) z;
 }
 
+-- no heap holds more keys than its limit
+pub rebuilding-none : (ws : List ℕ) (h : LazyMinHeap) → h .scores .capacity < h .scores .len → Rebuilding ws h ws h
+rebuilding-none ws h over = record {
+  entered = entered-same ws h;
+  count = λ p. absurd (omega (arith, p .scores .count));
+  parts = λ p. p;
+  entries = λ p. absurd (omega (arith, p .scores .count));
+}
+
 -- ---- renumbering
+pub numbering-none : (ws : List ℕ) (m : LinkedHashMap) → m .capacity < m .len → Numbered ws m ws (m .len)
+numbering-none ws m over = record { number = refl; scores = λ is. is; held = λ is. absurd (omega (arith, is .count)); size = refl; past = λ j g. refl }
+
 pub numbering : {ws ws′ : List ℕ} {m : LinkedHashMap} {left number s : ℕ} → Numbering ws m ws′ left number s → left ≤ 0 → Numbered ws m ws′ number
 numbering {ws} {ws′} {m} {left} {number} f none =
     let z : left ≡ 0 = omega arith in record {

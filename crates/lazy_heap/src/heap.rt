@@ -611,12 +611,16 @@ impl LazyMinHeap {
         0
     }
 
-    // The live entries alone, pushed in sequence order: the walk is from the earliest set to the latest.
+    // The live entries alone, pushed in sequence order: the walk is from the earliest set to the latest. It has a turn for
+    // each key held, so that it is not begun on numbers with more keys than the limit, which are no heap's.
     fn rebuild_within(self, words: &mut [u64]) -> LazyMinHeap
         requires { ⌜ Room (length (now words)) (self .scores .capacity) ⌝ }
         ensures { λ r. ⌜ Rebuilding (now (words .entry)) self (now (words .exit)) r ⌝ }
     {
         let scores = self.scores;
+        if scores.capacity < scores.len {
+            return self;
+        }
         let mut heap = LazyMinHeap {
             scores,
             entries: 0,
@@ -641,10 +645,13 @@ impl LazyMinHeap {
         heap
     }
 
-    // Numbers from 0 in the old sequence order.
+    // Numbers from 0 in the old sequence order, by the same walk.
     fn number_within(scores: LinkedHashMap, words: &mut [u64]) -> u64
         ensures { λ r. ⌜ Numbered (now (words .entry)) scores (now (words .exit)) r ⌝ }
     {
+        if scores.capacity < scores.len {
+            return scores.len as u64;
+        }
         let mut left = scores.len;
         let mut number = 0;
         let mut s = slot_number(scores.last(words), scores.capacity);

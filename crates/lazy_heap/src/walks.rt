@@ -39,10 +39,13 @@ pub fn live_slot(words: &[u64], scores: LinkedHashMap, entry: Entry) -> Slot
     }
 }
 
-// How many keys hold at most this score.
+// How many keys hold at most this score. Numbers with more keys than the limit, which are no map's, are not walked.
 pub fn count_at_most(words: &[u64], scores: LinkedHashMap, score: u64) -> usize
     ensures { λ r. ⌜ CountingAtMost (now (words .entry)) scores score r ⌝ }
 {
+    if scores.capacity < scores.len {
+        return 0;
+    }
     let mut n = 0;
     let mut left = scores.len;
     let mut s = slot_number(scores.first(words), scores.capacity);

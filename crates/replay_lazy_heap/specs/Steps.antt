@@ -1,5 +1,6 @@
 -- What one call does: what the heap's call of that number promises, and its answer.
 use mathlib.Core.Path.{_≡_}
+use mathlib.Core.Bool.{Bool}
 use mathlib.Core.List.{List}
 use Prim.Native.Nat.{ℕ, _<_}
 use Rattle.lazy_heap.specs.declared.heap.LazyMinHeap.{LazyMinHeap}
@@ -10,11 +11,11 @@ use Rattle.lazy_heap.specs.declared.heap.Bested.{Bested}
 use Rattle.lazy_heap.specs.declared.heap.Score.{Score}
 use Rattle.lazy_heap.specs.declared.heap.Number.{Number}
 use Rattle.lazy_heap.specs.declared.heap.Flag.{Flag}
-use Rattle.lazy_heap.specs.Model.{factorOf, len, heapLen}
-use Rattle.lazy_heap.specs.Calls.{Opening, Resetting, Updating, Removing, PoppingBest, PeekingBest, RebuildingNow, RebuildingMaybe, RenumberingNow, Clearing, Asking, AskingEmpty, Scoring}
+use Rattle.lazy_heap.specs.Model.{factorOf, len, heapLen, atMost}
+use Rattle.lazy_heap.specs.Calls.{Opening, Resetting, Updating, Removing, PoppingBest, PeekingBest, RebuildingNow, RebuildingMaybe, RenumberingNow, Clearing, Asking, AskingEmpty, Scoring, Checking}
 use Rattle.replay.specs.declared.answer.Answer.{Answer}
 use Rattle.replay.specs.declared.call.Call.{Call}
-use Rattle.replay.specs.Answers.{unknown}
+use Rattle.replay.specs.Answers.{ofBool, unknown}
 use Rattle.replay_lazy_heap.specs.Answers.{ofOutcome, ofScore, ofBest, ofNumber, ofFlag}
 
 pub data Ran (ws : List ℕ) (h : LazyMinHeap) (c : Call) : List ℕ → LazyMinHeap → Answer → Type 0 where
@@ -33,4 +34,6 @@ pub data Ran (ws : List ℕ) (h : LazyMinHeap) (c : Call) : List ℕ → LazyMin
   counted : {r : Number} → c .operation ≡ 12 → Asking ws h len r → Ran ws h c ws h (ofNumber r)
   askedEmpty : {r : Flag} → c .operation ≡ 13 → AskingEmpty ws h r → Ran ws h c ws h (ofFlag r)
   entriesCounted : {r : Number} → c .operation ≡ 14 → Asking ws h heapLen r → Ran ws h c ws h (ofNumber r)
-  other : 14 < c .operation → Ran ws h c ws h unknown
+  checked : {r : Bool} → c .operation ≡ 15 → Checking ws h r → Ran ws h c ws h (ofBool r)
+  countedAtMost : {r : Number} → c .operation ≡ 16 → Asking ws h (atMost (c .first)) r → Ran ws h c ws h (ofNumber r)
+  other : 16 < c .operation → Ran ws h c ws h unknown

@@ -28,7 +28,7 @@ pub fn step(words: &mut [u64], heap: LazyMinHeap, call: Call) -> Reply
     if operation < 10 {
         return tidy(words, heap, call);
     }
-    if operation < 15 {
+    if operation < 17 {
         let answer = read(words, heap, call);
         return Reply { heap, answer };
     }
@@ -70,7 +70,7 @@ fn tidy(words: &mut [u64], heap: LazyMinHeap, call: Call) -> Reply
 }
 
 fn read(words: &[u64], heap: LazyMinHeap, call: Call) -> Answer
-    requires { ⌜ (10 ≤ call .operation) × (call .operation < 15) ⌝ }
+    requires { ⌜ (10 ≤ call .operation) × (call .operation < 17) ⌝ }
     ensures { λ r. ⌜ Ran (now (words .entry)) heap call (now (words .entry)) heap r ⌝ }
 {
     let operation = call.operation;
@@ -79,7 +79,9 @@ fn read(words: &[u64], heap: LazyMinHeap, call: Call) -> Answer
         11 => answer::of_score(heap.score_of(words, call.first), 0),
         12 => answer::of_number(heap.len(words)),
         13 => answer::of_flag(heap.is_empty(words)),
-        _ => answer::of_number(heap.heap_len(words)),
+        14 => answer::of_number(heap.heap_len(words)),
+        15 => Answer::of_bool(heap.check(words)),
+        _ => answer::of_number(heap.count_at_most(words, call.first)),
     }
 }
 

@@ -3,9 +3,10 @@ ghost use mathlib.Core.Path.{_≡_};
 ghost use Prim.Native.Nat.{_*_, _≤_};
 ghost use lib.ListN.{length};
 ghost use Rattle.replay.specs.Runs.{Run, Replayed};
-ghost use Rattle.replay_lazy_heap.specs.Numbers.{heapIn, withHeap};
+ghost use Rattle.replay_lazy_heap.specs.Numbers.{heapIn};
 ghost use Rattle.replay_lazy_heap.specs.Steps.{Ran};
 use crate::call;
+use crate::numbers;
 use lazy_heap::LazyMinHeap;
 
 // Runs the calls on the words, and on the heap's numbers. Says how many calls it ran: as many as have room for an answer,
@@ -23,8 +24,8 @@ pub extern "C" fn lazy_heap_replay(
         return 0;
     }
     let count = replay::room(calls, answers);
-    let heap = run(words, heap_in(numbers), calls, answers, count);
-    store_heap(numbers, heap);
+    let heap = run(words, numbers::heap_in(numbers), calls, answers, count);
+    numbers::store_heap(numbers, heap);
     count as u64
 }
 
@@ -48,28 +49,4 @@ fn run(
         i += 1;
     }
     heap
-}
-
-fn heap_in(numbers: &[u64]) -> LazyMinHeap
-    requires { ⌜ 6 ≤ length (now numbers) ⌝ }
-    ensures { λ r. ⌜ r ≡ heapIn (now (numbers .entry)) ⌝ }
-{
-    let scores = replay_linked_hash_map::map_in(numbers);
-    LazyMinHeap {
-        scores,
-        entries: numbers[3] as usize,
-        seq: numbers[4],
-        factor: numbers[5] as usize,
-    }
-}
-
-fn store_heap(numbers: &mut [u64], heap: LazyMinHeap)
-    requires { ⌜ 6 ≤ length (now numbers) ⌝ }
-    ensures { λ _. ⌜ now (numbers .exit) ≡ withHeap (now (numbers .entry)) heap ⌝ }
-{
-    let scores = heap.scores;
-    replay_linked_hash_map::store_map(numbers, scores);
-    numbers[3] = heap.entries as u64;
-    numbers[4] = heap.seq;
-    numbers[5] = heap.factor as u64;
 }

@@ -30,7 +30,10 @@ pub enum Call {
     Len,
     IsEmpty,
     HeapLen,
-    /// No operation of the heap where the number is above 14.
+    Check,
+    /// How many keys hold at most this score.
+    CountAtMost(u64),
+    /// No operation of the heap where the number is above 16.
     Other(u64),
 }
 
@@ -59,6 +62,8 @@ impl replay::Call for Call {
             Self::Len => encode(12, []),
             Self::IsEmpty => encode(13, []),
             Self::HeapLen => encode(14, []),
+            Self::Check => encode(15, []),
+            Self::CountAtMost(score) => encode(16, [score]),
             Self::Other(operation) => encode(operation, []),
         }
     }

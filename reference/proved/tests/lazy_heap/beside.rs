@@ -144,6 +144,11 @@ impl Beside {
             Call::Len => Answer::Number(rust.len() as u64),
             Call::IsEmpty => Answer::from_bool(rust.is_empty()),
             Call::HeapLen => Answer::Number(rust.heap_len() as u64),
+            Call::Check => Answer::Yes,
+            Call::CountAtMost(score) => {
+                let at_most = |&(_, &held): &(&u64, &u64)| held <= score;
+                Answer::Number(rust.iter().filter(at_most).count() as u64)
+            }
             Call::Other(_) => Answer::Unknown,
         };
         let discarded = had + pushed - taken - self.rust.heap_len();

@@ -27,22 +27,16 @@ fn cause(call: Call, numbers: &[u64; 6], words: usize) -> Option<u64> {
         Call::SetAutoRebuild(factor) | Call::MaybeRebuild(factor) => {
             cause_with(numbers[0], words, factor)
         }
-        Call::Other(_) => None,
+        Call::Check | Call::Other(_) => None,
         _ => cause_of(numbers[0], words),
     }
 }
 
 impl Junk {
-    /// Keys held. `rebuild` and `renumber_seqs` take as many turns as this number says, so that on
-    /// the largest ones they would end, but not today.
-    fn held(&mut self, limit: u64, most: u64) -> u64 {
-        self.count(limit).min(most)
-    }
-
     fn heap_numbers(&mut self, limit: u64) -> [u64; 6] {
         [
             limit,
-            self.held(limit, 300),
+            self.count(limit),
             self.number(),
             self.count(limit.saturating_mul(9)),
             self.number(),
@@ -67,7 +61,7 @@ impl Junk {
         }
         if self.below(2) == 0 {
             let at = self.below(6) as usize;
-            heap.numbers[at] = self.held(limit, 300);
+            heap.numbers[at] = self.count(limit);
         }
         let size = self.size(words_for(limit));
         self.damage(&mut heap.words, limit, size);
@@ -94,7 +88,7 @@ impl Junk {
             0 => self.number(),
             _ => self.below(10),
         };
-        match self.below(16) {
+        match self.below(18) {
             0 => Call::Open(self.limit(), factor, self.number()),
             1 => Call::SetAutoRebuild(factor),
             2 => Call::Update(key, self.number()),
@@ -110,7 +104,9 @@ impl Junk {
             12 => Call::Len,
             13 => Call::IsEmpty,
             14 => Call::HeapLen,
-            _ => Call::Other(self.no_operation(15)),
+            15 => Call::Check,
+            16 => Call::CountAtMost(self.number()),
+            _ => Call::Other(self.no_operation(17)),
         }
     }
 }
@@ -222,7 +218,6 @@ fn the_largest_heaps_of_junk() {
         let limit = junk.pick(&[4095, 4096, 4096, 4097]);
         let size = junk.size(words_for(limit.min(MAX_LIMIT)));
         let mut numbers = junk.heap_numbers(limit);
-        numbers[1] = junk.held(limit, 5000);
         let mut words = Guarded::new(&junk.words(limit, size));
         for _ in 0..8 {
             call_on_junk(&mut numbers, &mut words, junk.heap_call());
@@ -252,5 +247,5 @@ fn refusals_at_their_edges() {
 
 #[test]
 fn lists_of_any_length() {
-    lists::of_any_length::<Call>(15, words_for);
+    lists::of_any_length::<Call>(17, words_for);
 }

@@ -57,12 +57,12 @@ impl Run {
             x if x < updates + removals => Call::Remove(key),
             x if x < updates + removals + pops => Call::PopBest,
             x if x < updates + removals + pops + peeks => Call::PeekBest,
-            _ => self.rare_call(key, is_large),
+            _ => self.rare_call(key, score, is_large),
         }
     }
 
     /// Calls that walk are rarer yet on a large heap.
-    fn rare_call(&mut self, key: u64, is_large: bool) -> Call {
+    fn rare_call(&mut self, key: u64, score: u64, is_large: bool) -> Call {
         let factor = match self.random.below(20) {
             0 => self.random.next(),
             _ => self.random.below(10),
@@ -77,7 +77,9 @@ impl Run {
             11 => Call::IsEmpty,
             12 => Call::Len,
             13 => Call::HeapLen,
-            14 => Call::Other(15 + (self.random.next() >> 3)),
+            14 => Call::Other(17 + (self.random.next() >> 3)),
+            15 => Call::Check,
+            16 => Call::CountAtMost(score),
             _ => Call::ScoreOf(key),
         }
     }

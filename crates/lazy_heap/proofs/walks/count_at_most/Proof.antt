@@ -1,6 +1,6 @@
 use native.Mathlib.Omega.{arith}
 use borrow.Author.Needs.{needs}
-use Rattle.lazy_heap.proofs.Downward.{Counting, at-most-one, counting-start, counting-on, counting-end}
+use Rattle.lazy_heap.proofs.Downward.{Counting, at-most-one, counting-start, counting-on, counting-none, counting-end}
 use Rattle.lazy_heap.proofs.walks.count_at_most.Statement.{statement}
 use Rattle.lazy_heap.proofs.walks.count_at_most.Tie as tie
 
@@ -16,6 +16,7 @@ count-at-most-spec =
     (tie.spec
     Inv-loop
     μ-loop
+    (λ c. counting-none _ _ _ (c .if1 .taken))
     (λ c κs. search needs)
     (λ c κs. search needs)
     (λ c. rw (c .slot-number .ensures) (counting-start _ _ _ _ _ (c .before .first .ensures)))

@@ -1,4 +1,4 @@
--- Each group of operations says which step it is. Any other operation is above 14.
+-- Each group of operations says which step it is. Any other operation is above 16.
 use native.Mathlib.Omega.{arith}
 use borrow.Author.Needs.{needs}
 use Rattle.replay_lazy_heap.specs.Steps.{other}

@@ -1,6 +1,6 @@
 use borrow.Author.Needs.{needs}
 use Rattle.lazy_heap.proofs.Refilling.{Numbering, numbering-start, numbering-on}
-use Rattle.lazy_heap.proofs.Stepping.{numbering}
+use Rattle.lazy_heap.proofs.Stepping.{numbering, numbering-none}
 use Rattle.lazy_heap.proofs.heap.LazyMinHeap.number_within.Statement.{statement}
 use Rattle.lazy_heap.proofs.heap.LazyMinHeap.number_within.Tie as tie
 
@@ -16,6 +16,7 @@ number-within-spec =
     (tie.spec
     Inv-loop
     μ-loop
+    (λ c. numbering-none _ _ (c .if1 .taken))
     (λ c κs. search needs)
     (λ c κs. search needs)
     (λ c. rw (c .slot-number .ensures) (numbering-start _ _ _ _ (c .before .last .ensures)))

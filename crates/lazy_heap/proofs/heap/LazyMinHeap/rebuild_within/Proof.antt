@@ -2,7 +2,7 @@ use mathlib.Core.Path.{refl}
 use borrow.Author.Needs.{needs}
 use Rattle.lazy_heap.proofs.Settling.{room-entered}
 use Rattle.lazy_heap.proofs.Refilling.{Refilling, refilling-start, refilling-on}
-use Rattle.lazy_heap.proofs.Stepping.{rebuilding}
+use Rattle.lazy_heap.proofs.Stepping.{rebuilding, rebuilding-none}
 use Rattle.lazy_heap.proofs.heap.LazyMinHeap.rebuild_within.Statement.{statement}
 use Rattle.lazy_heap.proofs.heap.LazyMinHeap.rebuild_within.Tie as tie
 
@@ -18,11 +18,12 @@ rebuild-within-spec =
     (tie.spec
     Inv-loop
     μ-loop
+    (λ c. rebuilding-none _ _ (c .if1 .taken))
     (λ c κs. search needs)
     (λ c κs. search needs)
     (λ c. rw (c .slot-number .ensures) (refilling-start _ _ _ _ refl (c .before .last .ensures)))
     (λ c κs. search needs)
-    (λ c κs. room-entered (c .before .before .before .before .loop .inv .entered) (c .before .before .before .before .before .before .before .before .before .before .pre))
+    (λ c κs. room-entered (c .before .before .before .before .loop .inv .entered) (c .before .before .before .before .before .before .before .before .before .before .before .before .pre))
     (λ c κs. search needs)
     (λ c κs. search needs)
     (λ c. search needs)

@@ -2,8 +2,8 @@
 use native.Mathlib.Omega.{arith}
 use lib.ListN.{length-set}
 use borrow.Author.Needs.{needs}
-use Rattle.replay_lazy_heap.proofs.list.store_heap.Statement.{statement}
-use Rattle.replay_lazy_heap.proofs.list.store_heap.Tie as tie
+use Rattle.replay_lazy_heap.proofs.numbers.store_heap.Statement.{statement}
+use Rattle.replay_lazy_heap.proofs.numbers.store_heap.Tie as tie
 
 pub store-heap-spec : {M : Type 1} → statement M
 store-heap-spec =
