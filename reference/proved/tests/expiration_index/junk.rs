@@ -218,7 +218,7 @@ fn every_operation_on_any_words() {
 #[test]
 fn the_largest_indexes_of_junk() {
     let mut junk = Junk(SplitMix64(2));
-    for _ in 0..50 {
+    for _ in 0..25 {
         let limit = junk.pick(&[4095, 4096, 4096, 4097]);
         let size = junk.size(words_for(limit.min(MAX_LIMIT)));
         let mut numbers = junk.index_numbers(limit);

@@ -139,7 +139,7 @@ fn point(random: &mut SplitMix64, row: &Row, size: usize) -> Point {
 
 pub fn measure(random: &mut SplitMix64) -> Vec<Panel> {
     let mut panel = |row: &Row| Panel {
-        layer: "expiration_index",
+        layer: "index",
         name: row.name,
         points: sizes().map(|size| point(random, row, size)).collect(),
     };
