@@ -47,4 +47,5 @@ replays! {
     linked_hash_map is linked_hash_map_replay
     fast_lru is fast_lru_replay
     lazy_heap is lazy_heap_replay
+    expiration_index is expiration_index_replay
 }

@@ -1,5 +1,6 @@
 //! The proved crates, called from Rust.
 
+pub mod expiration_index;
 mod exports;
 pub mod fast_lru;
 pub mod lazy_heap;

@@ -1,6 +1,7 @@
 //! Times the proved layers beside the Rust that they are ports of. Prints a table for each layer,
 //! and draws the cost of a call against the size into docs/benchmarks.svg.
 
+mod expiration_index;
 mod fast_lru;
 mod lazy_heap;
 mod linked_hash_map;
@@ -19,7 +20,16 @@ fn main() -> io::Result<()> {
     let heap_panels = lazy_heap::measure(&mut random);
     timing::print("lazy_heap", "LazyMinHeap", &[256, 4096], &heap_panels);
 
+    let index_panels = expiration_index::measure(&mut random);
+    timing::print(
+        "expiration_index",
+        "ExpirationIndex",
+        &[256, 4096],
+        &index_panels,
+    );
+
     panels.extend(heap_panels);
+    panels.extend(index_panels);
     let path = Path::new(env!("CARGO_MANIFEST_DIR")).join("../../docs/benchmarks.svg");
     fs::write(&path, plot::svg(&panels))?;
     println!("docs/benchmarks.svg is drawn anew.");
