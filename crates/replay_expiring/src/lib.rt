@@ -31,7 +31,8 @@
 // A value, a count and a rank are a number; the next due (key, deadline) and an item are a pair.
 //
 // The numbers are the list's (capacity, len, refill_in), the index's (limit, len and refill_in of its map, entries, seq,
-// factor), whether there is a default lifetime, its ticks, and the expirations.
+// factor), 1 for a default lifetime and 0 for none, its ticks, and the expirations. Any number but 0 is read as 1, and the ticks
+// of none as 0; so they are handed back.
 mod answer;
 mod book;
 mod call;

@@ -1,5 +1,6 @@
 //! The proved crates, called from Rust.
 
+pub mod expiring;
 mod exports;
 pub mod fast_lru;
 pub mod lazy_heap;
