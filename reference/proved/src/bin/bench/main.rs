@@ -1,6 +1,7 @@
 //! Times the proved layers beside the Rust that they are ports of. Prints a table for each layer,
 //! and draws the cost of a call against the size into docs/benchmarks.svg.
 
+mod expiring;
 mod fast_lru;
 mod lazy_heap;
 mod linked_hash_map;
@@ -18,6 +19,8 @@ fn main() -> io::Result<()> {
     timing::print("fast_lru", "FastLru", &[16, 256, 4096], &panels);
     let heap_panels = lazy_heap::measure(&mut random);
     timing::print("lazy_heap", "LazyMinHeap", &[256, 4096], &heap_panels);
+    let book_panels = expiring::measure(&mut random);
+    timing::print("expiring", "Expiring", &[16, 256, 4096], &book_panels);
 
     panels.extend(heap_panels);
     let path = Path::new(env!("CARGO_MANIFEST_DIR")).join("../../docs/benchmarks.svg");
