@@ -5,11 +5,12 @@ use std::process::Command;
 use std::{env, fs};
 
 /// A library for each layer: in one for all of them fewer calls would be inlined.
-const CRATES: [&str; 4] = [
+const CRATES: [&str; 5] = [
     "replay_linked_hash_map",
     "replay_fast_lru",
     "replay_lazy_heap",
     "replay_expiration_index",
+    "replay_expiring",
 ];
 
 fn main() {

@@ -48,4 +48,21 @@ replays! {
     fast_lru is fast_lru_replay
     lazy_heap is lazy_heap_replay
     expiration_index is expiration_index_replay
+    expiring is expiring_replay
+    open_expiring is expiring_open
+}
+
+unsafe extern "C" {
+    fn expiring_check(
+        numbers: *const u64,
+        numbers_len: usize,
+        words: *const u64,
+        words_len: usize,
+    ) -> u64;
+}
+
+/// 1 where words and numbers form a book, otherwise 0.
+pub fn check_expiring(numbers: &[u64], words: &[u64]) -> u64 {
+    // SAFETY: as above.
+    unsafe { expiring_check(numbers.as_ptr(), numbers.len(), words.as_ptr(), words.len()) }
 }

@@ -1,6 +1,7 @@
 //! The proved crates, called from Rust.
 
 pub mod expiration_index;
+pub mod expiring;
 mod exports;
 pub mod fast_lru;
 pub mod lazy_heap;

@@ -51,6 +51,12 @@ pub enum Answer {
     Refused(u64),
     /// There is no such operation.
     Unknown,
+    /// Of `ttl_status`, as the next three.
+    Missing,
+    Immortal,
+    Expired,
+    /// What remains, and the deadline.
+    Live(u64, u64),
 }
 
 impl Answer {
@@ -75,6 +81,10 @@ impl Answer {
             9 => (Self::Done, words),
             10 => (Self::Refused(key), [code, 0, first, second]),
             11 => (Self::Unknown, words),
+            12 => (Self::Missing, words),
+            13 => (Self::Immortal, words),
+            14 => (Self::Expired, words),
+            15 => (Self::Live(key, first), [code, 0, 0, second]),
             _ => panic!("no answer has code {code}"),
         };
         let [_, 0, 0, discarded] = rest else {

@@ -2,6 +2,7 @@
 //! and draws the cost of a call against the size into docs/benchmarks.svg.
 
 mod expiration_index;
+mod expiring;
 mod fast_lru;
 mod lazy_heap;
 mod linked_hash_map;
@@ -19,7 +20,6 @@ fn main() -> io::Result<()> {
     timing::print("fast_lru", "FastLru", &[16, 256, 4096], &panels);
     let heap_panels = lazy_heap::measure(&mut random);
     timing::print("lazy_heap", "LazyMinHeap", &[256, 4096], &heap_panels);
-
     let index_panels = expiration_index::measure(&mut random);
     timing::print(
         "expiration_index",
@@ -27,6 +27,8 @@ fn main() -> io::Result<()> {
         &[256, 4096],
         &index_panels,
     );
+    let book_panels = expiring::measure(&mut random);
+    timing::print("expiring", "Expiring", &[16, 256, 4096], &book_panels);
 
     panels.extend(heap_panels);
     panels.extend(index_panels);

@@ -1,5 +1,5 @@
-//! How all layers are timed. Contestants take the same lists of calls and write an answer of four
-//! words for each. A round times every contestant once, one after the other, and a figure is the
+//! How all layers are timed. Contestants take the same lists of calls, of N words each, and write an
+//! answer of four words for each. A round times every contestant once, one after the other, and a figure is the
 //! median over the rounds.
 
 use proved::replay::{Call, State};
@@ -19,8 +19,8 @@ pub fn sizes() -> impl Iterator<Item = usize> {
 
 pub type Words = [u64; 4];
 
-pub trait Contestant {
-    fn run(&mut self, calls: &[Words], answers: &mut Vec<Words>);
+pub trait Contestant<const N: usize = 4> {
+    fn run(&mut self, calls: &[[u64; N]], answers: &mut Vec<Words>);
 }
 
 impl<C: Call, const NUMBERS: usize> Contestant for State<C, NUMBERS> {
@@ -36,9 +36,9 @@ impl<C: Call, const NUMBERS: usize> Contestant for State<C, NUMBERS> {
 }
 
 /// What is timed, and what is run before it in every round and not timed.
-pub struct Workload {
-    pub before: Vec<Words>,
-    pub lists: Vec<Vec<Words>>,
+pub struct Workload<const N: usize = 4> {
+    pub before: Vec<[u64; N]>,
+    pub lists: Vec<Vec<[u64; N]>>,
 }
 
 impl Workload {
@@ -66,7 +66,11 @@ pub fn pick(random: &mut SplitMix64, keys: &[u64]) -> u64 {
 }
 
 /// The nanoseconds of a call.
-fn time(contestant: &mut dyn Contestant, work: &Workload, answers: &mut Vec<Words>) -> f64 {
+fn time<const N: usize>(
+    contestant: &mut dyn Contestant<N>,
+    work: &Workload<N>,
+    answers: &mut Vec<Words>,
+) -> f64 {
     contestant.run(&work.before, answers);
     let start = Instant::now();
     for list in &work.lists {
@@ -83,7 +87,10 @@ fn median(mut times: Vec<f64>) -> f64 {
 }
 
 /// One median for each contestant, in nanoseconds.
-pub fn medians(contestants: &mut [&mut dyn Contestant], work: &Workload) -> Vec<f64> {
+pub fn medians<const N: usize>(
+    contestants: &mut [&mut dyn Contestant<N>],
+    work: &Workload<N>,
+) -> Vec<f64> {
     let mut times = vec![Vec::new(); contestants.len()];
     let mut answers = Vec::with_capacity(CALLS_IN_LIST);
     for round in 0..WARM_UP_ROUNDS + ROUNDS {

@@ -1,0 +1,52 @@
+-- Each arm is the case of `ofAnswer` that the match found.
+use borrow.Author.Needs.{needs}
+use Rattle.replay_expiring.proofs.answer.of_answer.Statement.{statement}
+use Rattle.replay_expiring.proofs.answer.of_answer.Tie as tie
+
+pub of-answer-spec : {M : Type 1} → statement M
+of-answer-spec =
+    tie.close
+    (tie.spec
+    (λ c. search needs)
+    (λ c κs. search needs)
+    (λ c. search needs)
+    (λ c κs. search needs)
+    (λ c. search needs)
+    (λ c κs. search needs)
+    (λ c. search needs)
+    (λ c κs. search needs)
+    (λ c. search needs)
+    (λ c κs. search needs)
+    (λ c. search needs)
+    (λ c κs. search needs)
+    (λ c. search needs)
+    (λ c κs. search needs)
+    (λ c. search needs)
+    (λ c κs. search needs)
+    (λ c. search needs)
+    (λ c κs. search needs)
+    (λ c. search needs)
+    (λ c κs. search needs)
+    (λ c. search needs)
+    (λ c κs. search needs)
+    (λ c. search needs)
+    (λ c κs. search needs)
+    (λ c. search needs)
+    (λ c κs. search needs)
+    (λ c. search needs)
+    (λ c κs. search needs)
+    (λ c κs. search needs)
+    (λ c. cc)
+    (λ c. cc)
+    (λ c. cc)
+    (λ c. cc)
+    (λ c. cc)
+    (λ c. cc)
+    (λ c. cc)
+    (λ c. rw (c .before .before .answer2 .given .1) (c .words8 .ensures))
+    (λ c. cc)
+    (λ c. rw (c .before .before .answer4 .given .1) (c .words10 .ensures))
+    (λ c. cc)
+    (λ c. cc)
+    (λ c. cc)
+    (λ c. rw (c .before .before .before .answer7 .given .1) (rw (c .before .number .ensures) at (c .words14 .ensures))))

@@ -1,0 +1,33 @@
+-- Each arm is the call of its operation. The last arm's operation is 4, since it is below 5 and none of the others.
+use mathlib.Core.Path.{_≡_}
+use mathlib.Core.Logic.{_≢_}
+use Prim.Native.Nat.{ℕ, _<_, _≤_}
+use native.Mathlib.Omega.{arith}
+use Rattle.replay_expiring.specs.Words.{callOf}
+use borrow.Author.Needs.{needs}
+use Rattle.replay_expiring.proofs.call.store.Statement.{statement}
+use Rattle.replay_expiring.proofs.call.store.Tie as tie
+
+four : (n : ℕ) → n < 5 → n ≢ 0 → n ≢ 1 → n ≢ 2 → n ≢ 3 → n ≡ 4
+four n h a0 a1 a2 a3 = omega arith
+
+pub store-spec : {M : Type 1} → statement M
+unfolding callOf
+store-spec =
+    tie.close
+    (tie.spec
+    (λ c κs. search needs)
+    (λ c κs. search needs)
+    (λ c κs. search needs)
+    (λ c κs. search needs)
+    (λ c κs. search needs)
+    (λ c. search needs)
+    (λ c. let d = c .before .before in rw (d .before .before .match .keys1) (d .insert .ensures))
+    (λ c. search needs)
+    (λ c. let d = c .before .before in rw (d .before .before .match .keys2) (d .insert-with-ttl .ensures))
+    (λ c. search needs)
+    (λ c. let d = c .before .before in rw (d .before .before .match .keys3) (d .get .ensures))
+    (λ c. search needs)
+    (λ c. let d = c .before .before in rw (d .before .before .match .keys4) (d .remove .ensures))
+    (λ c. search needs)
+    (λ c. let d = c .before .before in let m = d .before .before in let s = m .before .before .before .before in rw (four _ (s .pre) (m .match .rest .0 .0 .0 .1) (m .match .rest .0 .0 .1) (m .match .rest .0 .1) (m .match .rest .1)) (d .clear .ensures)))
