@@ -24,10 +24,7 @@ use Rattle.expiring.specs.Book.{limitsOf, capacityOf, limitOf, IsBook, h
 use Rattle.expiring.specs.Calls.{causeOf, Following}
 use Rattle.expiring.specs.Steps.{withExpired, replying, storedOf, deadlinesOf, saturatingSum, Moved, beyond, Acting}
 use Rattle.expiring.proofs.Frames.{kept-same}
-use Rattle.expiring.proofs.Limits.{no-book}
-
-pub refused-done : (why : Refusal) → Refused why ≡ Done → ⊥
-refused-done why e = let z : _≡_ {A = ℕ} 0 1 = cc in omega arith
+use Rattle.expiring.proofs.Limits.{refused-done, no-book}
 
 same-refusal : {v w : Refusal} → answers.Refused v ≡ answers.Refused w → v ≡ w
 same-refusal e = cc
@@ -35,6 +32,25 @@ same-refusal e = cc
 -- an answer that is no refusal
 abbrev pub Accepted : Answer → Type 0
 Accepted a = (why : Refusal) → a ≡ answers.Refused why → ⊥
+
+abbrev refuses : Answer → Bool
+refuses (answers.Refused why) = true
+refuses answers.Nothing = false
+refuses (answers.Value v) = false
+refuses answers.Yes = false
+refuses answers.No = false
+refuses answers.Missing = false
+refuses answers.Immortal = false
+refuses answers.Expired = false
+refuses (answers.Live l d) = false
+refuses (answers.Count n) = false
+refuses (answers.Due k d) = false
+refuses (answers.Item k v) = false
+refuses (answers.Rank n) = false
+refuses answers.Done = false
+
+pub no-refusal : (a : Answer) → refuses a ≡ false → Accepted a
+no-refusal a e why q = true≢false (sym (ap refuses q) ∙ e)
 
 -- ---- what the model says of a call, by whether it refuses
 module _ (t : Tick) (c : Call) (m : Book) where

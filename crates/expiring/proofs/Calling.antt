@@ -3,7 +3,6 @@ use mathlib.Core.Path.{_≡_, refl, sym, _∙_}
 use mathlib.Core.Bool.{Bool, true, false, true≢false, not}
 use mathlib.Core.List.{List}
 use Prim.Native.Nat.{ℕ, _^_, _<_}
-use native.Mathlib.Omega.{arith}
 use Rattle.time.specs.declared.tick.Tick.{Tick}
 use Rattle.fast_lru.specs.Model as list
 use Rattle.expiring.specs.declared.answers.Answer.the-variants as answers
@@ -16,10 +15,11 @@ use Rattle.expiring.specs.Book.{IsBook, heapOf}
 use Rattle.expiring.specs.Steps.{withExpired, replying, deadlinesOf, Expired, Moved, same, Dating, Valuing, putting, beyond, Placing, Inserting, Removing}
 use Rattle.expiring.proofs.Frames.{kept-then}
 use Rattle.expiring.proofs.Moving.{pairs-keep, heap-keep}
-use Rattle.expiring.proofs.Acting.{Accepted, acting-expired, acting}
+use Rattle.expiring.proofs.Valuing.{not-true}
+use Rattle.expiring.proofs.Acting.{Accepted, no-refusal, acting-expired, acting}
 
 pub nothing-accepted : Accepted answers.Nothing
-nothing-accepted why e = let z : _≡_ {A = ℕ} 0 1 = cc in omega arith
+nothing-accepted = no-refusal answers.Nothing refl
 
 -- ---- `remove`
 module _ {ws ws′ : List ℕ} {b : Expiring} {t : Tick} {k : ℕ} {e : Bool} {v : Valued} (x : Expired ws b t k e) (d : Valuing ws b (drop k) k (list.without k) ws′ v) where
@@ -68,10 +68,6 @@ inserting {ws} {ws₁} {ws₂} {b} {b₁} {ch} {d} {t} {k} {v} {e} {r} p free x 
 not-false : (x : Bool) → not x ≡ false → x ≡ true
 not-false true e = refl
 not-false false e = absurd (true≢false e)
-
-not-true : (x : Bool) → not x ≡ true → x ≡ false
-not-true true e = absurd (true≢false (sym e))
-not-true false e = refl
 
 module _ {ws ws′ : List ℕ} {b : Expiring} {k : ℕ} {t : Tick} {r : Dated} (d : Dating ws b k t ws′ r) where
   pub unset-beyond : r .«is_set» ≡ false → IsBook ws b → beyond (set k t) ws b ≡ true

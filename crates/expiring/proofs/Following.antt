@@ -4,7 +4,6 @@ use mathlib.Core.Bool.{Bool, true, false, not, _&&_}
 use mathlib.Core.Option.{Option, none, some}
 use mathlib.Core.List.{List, []}
 use Prim.Native.Nat.{ℕ, _-_, _^_, _<_}
-use native.Mathlib.Omega.{arith}
 use lib.ListN.{length}
 use borrow.Author.Tests.{eq-eqb, ne-eqb}
 use Rattle.time.specs.declared.tick.Tick.{Tick}
@@ -53,28 +52,28 @@ use Rattle.expiring.specs.Book.{limitsOf, Room, capacityOf, limitOf, IsB
 use Rattle.expiring.specs.Calls.{Following}
 use Rattle.expiring.specs.Steps.{ofFound, ofTold, ofOldest, ofDue, statusOf, withList, withIndex, withExpired, replying, storedOf, deadlinesOf, DeadlineOf, Expired, Stored, StoredCount, ExpiredCount, Moved, same, Dating, Valuing, Inserting, Removing}
 use Rattle.expiring.proofs.Moving.{moved-list, moved-then, moved-same, moved-look, lent, back, lent-is, lent-index}
-use Rattle.expiring.proofs.Acting.{Accepted, follow, acting, acting-expired, acting-full}
+use Rattle.expiring.proofs.Acting.{Accepted, no-refusal, follow, acting, acting-expired, acting-full}
 use Rattle.expiring.proofs.Valuing.{found-accepted, value-of}
 use Rattle.expiring.proofs.Calling.{nothing-accepted, unset-beyond, set-within}
 
 -- ---- answers that are no refusals
 pub tell-accepted : (x : Bool) → Accepted (tell x)
-tell-accepted true why e = let z : _≡_ {A = ℕ} 0 1 = cc in omega arith
-tell-accepted false why e = let z : _≡_ {A = ℕ} 0 1 = cc in omega arith
+tell-accepted true = no-refusal answers.Yes refl
+tell-accepted false = no-refusal answers.No refl
 
 pub count-accepted : (n : ℕ) → Accepted (answers.Count n)
-count-accepted n why e = let z : _≡_ {A = ℕ} 0 1 = cc in omega arith
+count-accepted n = no-refusal (answers.Count n) refl
 
 done-accepted : Accepted answers.Done
-done-accepted why e = let z : _≡_ {A = ℕ} 0 1 = cc in omega arith
+done-accepted = no-refusal answers.Done refl
 
 missing-accepted : Accepted answers.Missing
-missing-accepted why e = let z : _≡_ {A = ℕ} 0 1 = cc in omega arith
+missing-accepted = no-refusal answers.Missing refl
 
 told-accepted : (x : Told) → Accepted (ofTold x)
-told-accepted told.Yes why e = let z : _≡_ {A = ℕ} 0 1 = cc in omega arith
-told-accepted told.No why e = let z : _≡_ {A = ℕ} 0 1 = cc in omega arith
-told-accepted (told.Refused w) why e = let z : _≡_ {A = ℕ} 0 1 = cc in omega arith
+told-accepted told.Yes = no-refusal answers.Yes refl
+told-accepted told.No = no-refusal answers.No refl
+told-accepted (told.Refused w) = no-refusal answers.No refl
 
 -- ---- the answers of the layers below
 told-tell : (x : Bool) → ofTold (list.tell x) ≡ tell x
@@ -90,36 +89,36 @@ and-false true = refl
 and-false false = refl
 
 rank-accepted : (x : Rank) → Accepted (rankIn x)
-rank-accepted (rank.At n) why e = let z : _≡_ {A = ℕ} 0 1 = cc in omega arith
-rank-accepted rank.Nothing why e = let z : _≡_ {A = ℕ} 0 1 = cc in omega arith
-rank-accepted (rank.Refused w) why e = let z : _≡_ {A = ℕ} 0 1 = cc in omega arith
+rank-accepted (rank.At n) = no-refusal (answers.Rank n) refl
+rank-accepted rank.Nothing = no-refusal answers.Nothing refl
+rank-accepted (rank.Refused w) = no-refusal answers.Nothing refl
 
 oldest-accepted : (x : Oldest) → Accepted (ofOldest x)
-oldest-accepted (oldest.Item k v) why e = let z : _≡_ {A = ℕ} 0 1 = cc in omega arith
-oldest-accepted oldest.Nothing why e = let z : _≡_ {A = ℕ} 0 1 = cc in omega arith
-oldest-accepted (oldest.Refused w) why e = let z : _≡_ {A = ℕ} 0 1 = cc in omega arith
+oldest-accepted (oldest.Item k v) = no-refusal (answers.Item k v) refl
+oldest-accepted oldest.Nothing = no-refusal answers.Nothing refl
+oldest-accepted (oldest.Refused w) = no-refusal answers.Nothing refl
 
 oldest-in : (x : Option Item) → ofOldest (list.itemIn x) ≡ itemIn x
 oldest-in none = refl
 oldest-in (some i) = refl
 
 due-accepted : (x : Due) → Accepted (ofDue x)
-due-accepted (due.Pair k d) why e = let z : _≡_ {A = ℕ} 0 1 = cc in omega arith
-due-accepted due.Nothing why e = let z : _≡_ {A = ℕ} 0 1 = cc in omega arith
-due-accepted (due.Refused w) why e = let z : _≡_ {A = ℕ} 0 1 = cc in omega arith
+due-accepted (due.Pair k d) = no-refusal (answers.Due k d) refl
+due-accepted due.Nothing = no-refusal answers.Nothing refl
+due-accepted (due.Refused w) = no-refusal answers.Nothing refl
 
 due-in : (x : Option Pair) → ofDue (pairIn x) ≡ dueIn x
 due-in none = refl
 due-in (some p) = refl
 
 lives-accepted : (d : Tick) (x : Remaining) → Accepted (livesAt d x)
-lives-accepted d remaining.Expired why e = let z : _≡_ {A = ℕ} 0 1 = cc in omega arith
-lives-accepted d (remaining.Live l) why e = let z : _≡_ {A = ℕ} 0 1 = cc in omega arith
+lives-accepted d remaining.Expired = no-refusal answers.Expired refl
+lives-accepted d (remaining.Live l) = no-refusal (answers.Live l d) refl
 
 status-accepted : (x : Deadline) (t : Tick) → Accepted (statusOf x t)
-status-accepted (deadline.At d) t why e = lives-accepted d (remainingAt d t) why e
-status-accepted deadline.Nothing t why e = let z : _≡_ {A = ℕ} 0 1 = cc in omega arith
-status-accepted (deadline.Refused w) t why e = let z : _≡_ {A = ℕ} 0 1 = cc in omega arith
+status-accepted (deadline.At d) t = lives-accepted d (remainingAt d t)
+status-accepted deadline.Nothing t = no-refusal answers.Immortal refl
+status-accepted (deadline.Refused w) t = no-refusal answers.Immortal refl
 
 status-in : (x : Option Pair) (t : Tick) → statusOf (deadlineIn x) t ≡ statusIn t x
 status-in none t = refl

@@ -14,7 +14,7 @@ use Rattle.expiration_index.proofs.Laws as index
 use Rattle.expiring.specs.declared.expiring.Expiring.{Expiring}
 use Rattle.expiring.specs.Book.{wordsFor, start, limitsOf, Room, capacityOf, limitOf, IsBook}
 
-refused-done : (why : Refusal) → Refused why ≡ Done → ⊥
+pub refused-done : (why : Refusal) → Refused why ≡ Done → ⊥
 refused-done why e = let z : _≡_ {A = ℕ} 0 1 = cc in omega arith
 
 pub limits-room : (c d l : ℕ) → limitsOf c d l ≡ Done → Room l c d

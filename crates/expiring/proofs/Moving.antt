@@ -135,9 +135,8 @@ module _ (ws : List ℕ) (b : Expiring) (room : Room (length ws) (capacityOf b) 
   unfolding pairsAfter heapAfter discards
   moved-look c = moved-call look c (λ l. refl) (λ h. refl) (λ h. refl)
 
--- ---- one step and then another
+-- ---- a step on the values and then one on the deadlines
 module _ {ws ws₁ ws₂ : List ℕ} {b b₁ b₂ : Expiring} {f : Items → Items} {ch : Change} {d : ℕ} where
-  -- first the values
   pub moved-then : Moved ws b keep f ws₁ b₁ 0 → Moved ws₁ b₁ ch same ws₂ b₂ d → Moved ws b ch f ws₂ b₂ d
   moved-then p q = record {
     capacity = q .capacity ∙ p .capacity;
@@ -149,21 +148,6 @@ module _ {ws ws₁ ws₂ : List ℕ} {b b₁ b₂ : Expiring} {f : Items → Ite
     deadlines = λ o. q .deadlines (p .book o) ∙ ap (pairsAfter ch) (p .deadlines o ∙ pairs-keep (deadlinesOf ws b));
     heap = λ o. q .heap (p .book o) ∙ ap (heapAfter ch) (p .heap o ∙ heap-keep (heapOf ws b));
     discarded = λ o. q .discarded (p .book o) ∙ ap (discards ch) (p .heap o ∙ heap-keep (heapOf ws b));
-    kept = kept-then (p .capacity) (p .limit) (p .kept) (q .kept);
-  }
-
-  -- first the deadlines
-  pub moved-before : Moved ws b ch same ws₁ b₁ d → Moved ws₁ b₁ keep f ws₂ b₂ 0 → Moved ws b ch f ws₂ b₂ d
-  moved-before p q = record {
-    capacity = q .capacity ∙ p .capacity;
-    limit = q .limit ∙ p .limit;
-    lifetime = q .lifetime ∙ p .lifetime;
-    expirations = q .expirations ∙ p .expirations;
-    book = λ o. q .book (p .book o);
-    stored = λ o. q .stored (p .book o) ∙ ap f (p .stored o);
-    deadlines = λ o. q .deadlines (p .book o) ∙ pairs-keep (deadlinesOf ws₁ b₁) ∙ p .deadlines o;
-    heap = λ o. q .heap (p .book o) ∙ heap-keep (heapOf ws₁ b₁) ∙ p .heap o;
-    discarded = p .discarded;
     kept = kept-then (p .capacity) (p .limit) (p .kept) (q .kept);
   }
 
@@ -181,6 +165,3 @@ moved-same ws b = record {
   discarded = λ o. sym (discards-keep (heapOf ws b));
   kept = record { size = refl; past = λ j h. refl };
 }
-
-pub room-moved : {ws ws′ : List ℕ} {b b′ : Expiring} {ch : Change} {f : Items → Items} {d : ℕ} → Moved ws b ch f ws′ b′ d → Room (length ws) (capacityOf b) (limitOf b) → Room (length ws′) (capacityOf b′) (limitOf b′)
-room-moved m r = rw (m .kept .size, m .capacity, m .limit) r

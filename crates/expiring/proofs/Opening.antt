@@ -36,7 +36,8 @@ use Rattle.expiring.specs.Book.{start, limitsOf, Room, limitOf, rest, he
 use Rattle.expiring.specs.Calls.{noBook, byTicks as outcomeOf, byDuration, openingOf, ofTicks, defaultOf, Opening}
 use Rattle.expiring.specs.Steps.{byTicks, defaultedBy, Opened}
 use Rattle.expiring.proofs.Frames.{rest-back, rest-length, rest-before, rest-kept, kept-then, kept-list, kept-same}
-use Rattle.expiring.proofs.Acting.{same-book, refused-done}
+use Rattle.expiring.proofs.Acting.{same-book}
+use Rattle.expiring.proofs.Limits.{refused-done}
 
 list-open : {l c d : ℕ} → Room l c d → list.opening c l ≡ Done
 unfolding list.opening

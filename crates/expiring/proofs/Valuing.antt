@@ -4,7 +4,6 @@ use mathlib.Core.Bool.{Bool, true, false, true≢false, cond, not}
 use mathlib.Core.Option.{Option, none, some}
 use mathlib.Core.List.{List}
 use Prim.Native.Nat.{ℕ, _-_}
-use native.Mathlib.Omega.{arith}
 use lib.ListN.{length}
 use borrow.Rule.Slice.PartMut.{put-same}
 use Rattle.time.specs.declared.tick.Tick.{Tick}
@@ -27,13 +26,14 @@ use Rattle.expiration_index.specs.Answers.{ofDeadline}
 use Rattle.expiration_index.specs.Index as index
 use Rattle.expiration_index.specs.Calls as calls
 use Rattle.expiring.specs.declared.answers.Answer.{Answer}
+use Rattle.expiring.specs.declared.answers.Answer.the-variants as answers
 use Rattle.expiring.specs.declared.expiring.Expiring.{Expiring}
 use Rattle.expiring.specs.Model.{keep, set, valueIn, pairsAfter}
 use Rattle.expiring.specs.Discards.{discards, heapAfter}
 use Rattle.expiring.specs.Book.{start, Room, capacityOf, limitOf, IsBook, heapOf}
 use Rattle.expiring.specs.Steps.{ofFound, isAccepted, withList, withIndex, storedOf, deadlinesOf, Dating, Valuing}
 use Rattle.expiring.proofs.Moving.{moved-list, lent, back, lent-is, lent-index, moved-index}
-use Rattle.expiring.proofs.Acting.{Accepted}
+use Rattle.expiring.proofs.Acting.{Accepted, no-refusal}
 
 -- ---- a value
 value-found : (x : Option Item) → ofFound (list.valueIn x) ≡ valueIn x
@@ -41,9 +41,9 @@ value-found none = refl
 value-found (some i) = refl
 
 pub found-accepted : (f : Found) → Accepted (ofFound f)
-found-accepted (found.Value v) why e = let z : _≡_ {A = ℕ} 0 1 = cc in omega arith
-found-accepted found.Nothing why e = let z : _≡_ {A = ℕ} 0 1 = cc in omega arith
-found-accepted (found.Refused w) why e = let z : _≡_ {A = ℕ} 0 1 = cc in omega arith
+found-accepted (found.Value v) = no-refusal (answers.Value v) refl
+found-accepted found.Nothing = no-refusal answers.Nothing refl
+found-accepted (found.Refused why) = no-refusal answers.Nothing refl
 
 pub value-of : (k : ℕ) (s : Items) → ofFound (list.valueOf k s) ≡ valueIn (list.lookup k s)
 unfolding list.valueOf
@@ -82,7 +82,7 @@ refused-how (deadline.At d) e = absurd (true≢false e)
 refused-how deadline.Nothing e = absurd (true≢false e)
 refused-how (deadline.Refused why) e = (why, refl)
 
-not-true : (b : Bool) → not b ≡ true → b ≡ false
+pub not-true : (b : Bool) → not b ≡ true → b ≡ false
 not-true true e = absurd (true≢false (sym e))
 not-true false e = refl
 

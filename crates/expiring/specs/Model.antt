@@ -151,13 +151,13 @@ unfoldable pub withoutExpired : Tick → Pairs → Items → Items
 withoutExpired t [] s = s
 withoutExpired t (p ∷ l) s = cond (isExpiredAt (p .deadline) t) (list.without (p .key) (withoutExpired t l s)) (withoutExpired t l s)
 
-abbrev pub with : ℕ → ℕ → Book → Items
-with k v b = inserted (b .capacity) (record { key = k; value = v }) (b .stored)
+abbrev pub withItem : ℕ → ℕ → Book → Items
+withItem k v b = inserted (b .capacity) (record { key = k; value = v }) (b .stored)
 
 unfoldable pub storedAfter : Tick → Call → Book → Items
 storedAfter t (get k) b = cond (isExpired t k b) (list.without k (b .stored)) (toFront k (b .stored))
-storedAfter t (insert k v) b = with k v b
-storedAfter t (insertWithTtl k v d) b = cond (isZero d) (list.without k (b .stored)) (with k v b)
+storedAfter t (insert k v) b = withItem k v b
+storedAfter t (insertWithTtl k v d) b = cond (isZero d) (list.without k (b .stored)) (withItem k v b)
 storedAfter t (remove k) b = list.without k (b .stored)
 storedAfter t (setTtl k d) b = cond (isStored k b) (cond (isExpired t k b) (list.without k (b .stored)) (cond (eqb (millisOf d) 0) (list.without k (b .stored)) (b .stored))) (b .stored)
 storedAfter t purgeExpired b = withoutExpired t (b .deadlines) (b .stored)

@@ -19,7 +19,7 @@ use Rattle.linked_hash_map.proofs.Putting.{model-length}
 use Rattle.lazy_heap.specs.declared.heap.LazyMinHeap.{LazyMinHeap}
 use Rattle.lazy_heap.specs.Words.{part}
 use Rattle.lazy_heap.specs.Heap.{modelOf, Parts, IsHeap}
-use Rattle.lazy_heap.specs.Walks.{Blank, Tallying, Standing, Sound, Agreeing}
+use Rattle.lazy_heap.specs.Walks.{Blank, Tallying, RecordsValid, Sound, Agreeing}
 use Rattle.lazy_heap.specs.Calls.{Checking}
 
 -- a record of a list has a place in it, and a place a record
@@ -58,7 +58,7 @@ module _ {ws : List ℕ} {h : LazyMinHeap} where
     complete = λ p v. absurd (true≢false (sym (k .complete (p .entries) (v .below)) ∙ e));
   }
 
-  module _ {t t′ : List ℕ} {u r : Bool} (k : Tallying ws (h .scores) (h .entries) (h .seq) t t′ u) (yes : u ≡ true) (b : Blank (h .scores) t) (s : Standing ws (h .scores) (h .seq) t′ r) where
+  module _ {t t′ : List ℕ} {u r : Bool} (k : Tallying ws (h .scores) (h .entries) (h .seq) t t′ u) (yes : u ≡ true) (b : Blank (h .scores) t) (s : RecordsValid ws (h .scores) (h .seq) t′ r) where
     pub agreeing : Agreeing ws h r
     agreeing = record {
       sound = λ p q. record {

@@ -18,7 +18,7 @@ use Rattle.linked_hash_map.proofs.Putting.{model-length}
 use Rattle.lazy_heap.specs.Model.{countAtMost}
 use Rattle.lazy_heap.specs.Valid.{Falling}
 use Rattle.lazy_heap.specs.Steps.{slotNumber}
-use Rattle.lazy_heap.specs.Walks.{CountingAtMost, Standing}
+use Rattle.lazy_heap.specs.Walks.{CountingAtMost, RecordsValid}
 use Rattle.lazy_heap.proofs.Refilling.{nth-drop, at-number}
 
 -- so many records are still to be looked at, and s is the slot of the first of them
@@ -125,14 +125,14 @@ descending-start ws m next t first none e = record {
 
 module _ {ws : List ℕ} {m : LinkedHashMap} {next : ℕ} {t : List ℕ} {bound left s : ℕ} (d : Descending ws m next t bound left s) (more : 0 < left) (x : Record) (read : Reading ws m s x) where
   -- a number that is not below the one before
-  pub descending-stop : bound ≤ x .second → Standing ws m next t false
+  pub descending-stop : bound ≤ x .second → RecordsValid ws m next t false
   descending-stop b = record {
     sound = λ is q. absurd (true≢false (sym q));
     complete = λ is f o. absurd (let g = subst (Falling bound) (first-ahead (d .walk) more x read is) (d .onward is f) in omega (arith, g .0));
   }
 
   -- a slot that was not seen once
-  pub descending-unseen : (getD t s 0 ≡ 1 → ⊥) → Standing ws m next t false
+  pub descending-unseen : (getD t s 0 ≡ 1 → ⊥) → RecordsValid ws m next t false
   descending-unseen n = record {
     sound = λ is q. absurd (true≢false (sym q));
     complete = λ is f o. absurd (n (o (m .len - left) s (d .walk .place is more)));
@@ -149,7 +149,7 @@ module _ {ws : List ℕ} {m : LinkedHashMap} {next : ℕ} {t : List ℕ} {bound 
       here : map.IsMap ws m → (i y : ℕ) → i ≡ m .len - left → map.slotAt ws m i ≡ slot.At y → getD t y 0 ≡ 1
       here is i y z q = let p : slot.At y ≡ slot.At s = sym q ∙ ap (map.slotAt ws m) z ∙ d .walk .place is more in let same : y ≡ s = cc in rw same o
 
-pub descending-end : {ws : List ℕ} {m : LinkedHashMap} {next : ℕ} {t : List ℕ} {bound left s : ℕ} → Descending ws m next t bound left s → left ≤ 0 → Standing ws m next t true
+pub descending-end : {ws : List ℕ} {m : LinkedHashMap} {next : ℕ} {t : List ℕ} {bound left s : ℕ} → Descending ws m next t bound left s → left ≤ 0 → RecordsValid ws m next t true
 descending-end {ws} {m} {next} {t} {bound} {left} d none = record {
   sound = λ is q. (d .back is (subst (Falling bound) (sym (none-ahead ws m left none)) tt), λ i x e. d .once is i x (omega (arith, place-below ws m i x e)) e);
   complete = λ is f o. refl;

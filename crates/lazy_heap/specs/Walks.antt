@@ -59,8 +59,8 @@ pub record Tallying (ws : List ℕ) (m : LinkedHashMap) (n next : ℕ) (t t′ :
 abbrev pub Once : List ℕ → LinkedHashMap → List ℕ → Type 0
 Once ws m t = (i s : ℕ) → map.slotAt ws m i ≡ slot.At s → getD t s 0 ≡ 1
 
--- `records_stand`
-pub record Standing (ws : List ℕ) (m : LinkedHashMap) (next : ℕ) (t : List ℕ) (r : Bool) : Type 0 where
+-- `records_valid`
+pub record RecordsValid (ws : List ℕ) (m : LinkedHashMap) (next : ℕ) (t : List ℕ) (r : Bool) : Type 0 where
   pub sound : map.IsMap ws m → r ≡ true → Falling next (map.modelOf ws m) × Once ws m t
   pub complete : map.IsMap ws m → Falling next (map.modelOf ws m) → Once ws m t → r ≡ true
 

@@ -508,7 +508,7 @@ impl LazyMinHeap {
         if !walks::tally_entries(words, self.scores, self.entries, self.seq, &mut tally) {
             return false;
         }
-        walks::records_stand(words, self.scores, self.seq, &tally)
+        walks::records_valid(words, self.scores, self.seq, &tally)
     }
 
     // ---- the entries

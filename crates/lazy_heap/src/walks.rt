@@ -5,7 +5,7 @@ ghost use lib.Dec.{leb};
 ghost use lib.ListN.{length, getD};
 ghost use Rattle.lazy_heap.specs.Words.{Room};
 ghost use Rattle.lazy_heap.specs.Steps.{slotNumber};
-ghost use Rattle.lazy_heap.specs.Walks.{oneMore, seen, CountingAtMost, LivingAt, Tallying, Standing};
+ghost use Rattle.lazy_heap.specs.Walks.{oneMore, seen, CountingAtMost, LivingAt, Tallying, RecordsValid};
 use binary_heap::Entry;
 use linked_hash_map::LinkedHashMap;
 use linked_hash_map::Slot;
@@ -68,8 +68,8 @@ fn one_if_at_most(a: u64, b: u64) -> usize
 
 // From the latest set to the earliest the numbers fall, the next number is above all, and each key's live entry was seen
 // once.
-pub fn records_stand(words: &[u64], scores: LinkedHashMap, seq: u64, tally: &[u64]) -> bool
-    ensures { λ r. ⌜ Standing (now (words .entry)) scores seq (now (tally .entry)) r ⌝ }
+pub fn records_valid(words: &[u64], scores: LinkedHashMap, seq: u64, tally: &[u64]) -> bool
+    ensures { λ r. ⌜ RecordsValid (now (words .entry)) scores seq (now (tally .entry)) r ⌝ }
 {
     let mut bound = seq;
     let mut left = scores.len;

@@ -17,4 +17,4 @@ is-valid-spec =
     (λ c.
     let f = c .before .before in
     let k = f .before .before in
-    agreeing (k .tally-entries .ensures) (fitting refl (f .if1 .left)) (blank _ (k .before .before .before .pre .limit)) (c .records-stand .ensures)))
+    agreeing (k .tally-entries .ensures) (fitting refl (f .if1 .left)) (blank _ (k .before .before .before .pre .limit)) (c .records-valid .ensures)))

@@ -1,8 +1,8 @@
 use mathlib.Core.Path.{sym, _∙_}
 use borrow.Author.Needs.{needs}
 use Rattle.lazy_heap.proofs.Downward.{Descending, descending-start, descending-stop, descending-unseen, descending-on, descending-end}
-use Rattle.lazy_heap.proofs.walks.records_stand.Statement.{statement}
-use Rattle.lazy_heap.proofs.walks.records_stand.Tie as tie
+use Rattle.lazy_heap.proofs.walks.records_valid.Statement.{statement}
+use Rattle.lazy_heap.proofs.walks.records_valid.Tie as tie
 
 abbrev Inv-loop : tie.InvT-loop
 Inv-loop words scores seq tally bound₀ left₀ s₀ bound left s = Descending words scores seq tally bound left s
@@ -10,8 +10,8 @@ Inv-loop words scores seq tally bound₀ left₀ s₀ bound left s = Descending 
 abbrev μ-loop : tie.MeasureT-loop
 μ-loop words scores seq tally bound₀ left₀ s₀ bound left s = left
 
-pub records-stand-spec : {M : Type 1} → statement M
-records-stand-spec =
+pub records-valid-spec : {M : Type 1} → statement M
+records-valid-spec =
     tie.close
     (tie.spec
     Inv-loop
