@@ -8,10 +8,8 @@ use native.Mathlib.Omega.{arith}
 use lib.ListN.{length, getD, drop, length-drop}
 use lib.Seq.{ext-getD, getD-drop}
 use Rattle.time.specs.declared.tick.Tick.{Tick}
-use Rattle.time.specs.declared.refusal.Outcome.the-variants.{Done}
 use Rattle.linked_hash_map.proofs.Putting as map
-use Rattle.binary_heap.proofs.Laws as array
-use Rattle.lazy_heap.specs.Words.{wordsFor, part, Kept}
+use Rattle.lazy_heap.specs.Words.{wordsFor, Kept}
 use Rattle.lazy_heap.specs.Model.{Heap, heapLen, removed, cleared, updated}
 use Rattle.lazy_heap.proofs.Laws as lazy
 use Rattle.expiration_index.specs.declared.index.ExpirationIndex.{ExpirationIndex}
@@ -20,22 +18,15 @@ use Rattle.expiration_index.specs.declared.answers.Changed.{Changed}
 use Rattle.expiration_index.specs.declared.answers.Looked.{Looked}
 use Rattle.expiration_index.specs.Model.{Pair, Distinct, isFull, nextExpired}
 use Rattle.expiration_index.specs.Index.{IsIndex, deadlines, heapOf, modelOf}
-use Rattle.expiration_index.specs.Calls.{limit, limitsIn, Clearing, Removing, NextDeadline, PoppingExpired, poppedExpired, takenIf, Setting}
+use Rattle.expiration_index.specs.Calls.{limit, Clearing, Removing, NextDeadline, PoppingExpired, poppedExpired, takenIf, Setting}
 use Rattle.expiration_index.proofs.Pairs.{distinct-pairs, deadlines-length, full-deadlines}
 use Rattle.expiration_index.proofs.Nexts.{best-taken}
 
--- the numbers tell how many deadlines and entries there are
+-- the numbers tell how many deadlines there are
 pub model-length : (ws : List ℕ) (x : ExpirationIndex) → length (modelOf ws x) ≡ x .heap .scores .len
 model-length ws x = deadlines-length (heapOf ws x) ∙ map.model-length ws (x .heap .scores)
 
-pub heap-length : (ws : List ℕ) (x : ExpirationIndex) → heapLen (heapOf ws x) ≡ x .heap .entries
-heap-length ws x = array.model-length (part (limit x) ws) (x .heap .entries)
-
 module _ {ws : List ℕ} {x : ExpirationIndex} (is : IsIndex ws x) where
-  -- refusals 1 and 2 do not come on an index
-  pub index-limits : limitsIn ws x ≡ Done
-  index-limits = lazy.room-limits (is .heap .parts .room)
-
   pub limit-some : 1 ≤ limit x
   limit-some = is .heap .parts .room .some
 
