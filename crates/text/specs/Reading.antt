@@ -12,9 +12,9 @@ use Rattle.text.specs.declared.reader.Fields.{Fields}
 abbrev pub isDigit : ℕ → Bool
 isDigit c = leb 48 c && leb c 57
 
-abbrev pub _then_ : {A B : Type 0} → Option A → (A → Option B) → Option B
-none then f = none
-(some a) then f = f a
+abbrev pub andThen : {A B : Type 0} → Option A → (A → Option B) → Option B
+andThen none f = none
+andThen (some a) f = f a
 
 -- ---- a number, and the text after it
 -- digits that go on with a number
@@ -34,7 +34,7 @@ readByte c (x ∷ s) = cond (eqb x c) (some s) none
 -- ---- a text by a format: its numbers, at most five, with zeros after them, and the text after it
 unfoldable pub readFrom : ℕ → List ℕ → List ℕ → List ℕ → Option (List ℕ × List ℕ)
 readFrom k ns [] s = some (ns, s)
-readFrom k ns (c ∷ f) s = cond (eqb c 48) (readNumber s then λ r. cond (ltb k 5) (readFrom (suc k) (set ns k (r .0)) f (r .1)) none) (readByte c s then λ r. readFrom k ns f r)
+readFrom k ns (c ∷ f) s = cond (eqb c 48) (andThen (readNumber s) (λ r. cond (ltb k 5) (readFrom (suc k) (set ns k (r .0)) f (r .1)) none)) (andThen (readByte c s) (λ r. readFrom k ns f r))
 
 abbrev pub readIn : List ℕ → List ℕ → Option (List ℕ × List ℕ)
 readIn f s = readFrom 0 (0 ∷ 0 ∷ 0 ∷ 0 ∷ 0 ∷ []) f s
