@@ -3,11 +3,15 @@ use mathlib.Core.Path.{_≡_, refl, sym, ap, _∙_, subst}
 use mathlib.Core.Bool.{Bool, true, false}
 use mathlib.Core.Option.{Option, none, some}
 use mathlib.Core.List.{List}
-use Prim.Native.Nat.{ℕ}
+use Prim.Native.Nat.{ℕ, _+_, _*_, _≤_}
 use native.Mathlib.Omega.{arith}
-use lib.ListN.{length}
+use borrow.Author.Tests.{ne-eqb, le-ltb}
+use lib.ListN.{length, length-drop}
 use Rattle.time.specs.declared.tick.Tick.{Tick}
 use Rattle.time.specs.declared.refusal.Refusal.{Refusal}
+use Rattle.time.specs.declared.refusal.Outcome.the-variants.{Done, Refused}
+use Rattle.lazy_heap.specs.Model.{heapLen}
+use Rattle.lazy_heap.specs.Words as heap
 use Rattle.fast_lru.specs.declared.answers.Told.{Told}
 use Rattle.fast_lru.specs.declared.answers.Told.the-variants as told
 use Rattle.fast_lru.specs.declared.answers.Count.{Count}
@@ -18,6 +22,7 @@ use Rattle.fast_lru.specs.Lru as lists
 use Rattle.time.specs.Deadline.{isExpiredAt}
 use Rattle.expiration_index.specs.declared.answers.Deadline.{Deadline}
 use Rattle.expiration_index.specs.declared.answers.Deadline.the-variants as deadline
+use Rattle.expiration_index.specs.declared.answers.Count as counts
 use Rattle.expiration_index.specs.declared.answers.Count.the-variants as expired
 use Rattle.expiration_index.specs.Model.{Pair, deadlineIn, deadlineOf, expiredCount}
 use Rattle.expiration_index.specs.Model as pairs
@@ -25,9 +30,10 @@ use Rattle.expiration_index.specs.Index as index
 use Rattle.expiration_index.specs.Calls as calls
 use Rattle.expiring.specs.declared.expiring.Expiring.{Expiring}
 use Rattle.expiring.specs.Model.{hasCome}
-use Rattle.expiring.specs.Book.{Room, capacityOf, limitOf}
-use Rattle.expiring.specs.Calls.{Checking}
+use Rattle.expiring.specs.Book.{Room, start, limitsOf, capacityOf, limitOf, IsBook, modelOf}
+use Rattle.expiring.specs.Calls.{Checking, Counting, DeadlinesHeld, HeapLength}
 use Rattle.expiring.specs.Steps.{comeBy, storedOf, deadlinesOf, DeadlineOf, Expired, Stored, StoredCount, ExpiredCount}
+use Rattle.expiring.proofs.Limits.{room-limits, no-book}
 use Rattle.expiring.proofs.Moving.{lent, lent-is, lent-index}
 
 -- ---- deadlines
@@ -40,6 +46,24 @@ module _ (ws : List ℕ) (b : Expiring) (room : Room (length ws) (capacityOf b) 
 
   pub asking-none : (t : Tick) {n : ℕ} {why : Refusal} {r : _} → calls.ExpiredCount (lent ws b) (b .index) t r → r ≡ expired.Refused why → ExpiredCount ws b t n
   asking-none t a e = record { answer = λ o. absurd (let q = sym e ∙ a .answer (lent-index ws b room o) in let z : _≡_ {A = ℕ} 0 1 = cc in omega arith) }
+
+  -- there is room for the index behind a book's list
+  lent-limits : calls.limitsIn (lent ws b) (b .index) ≡ Done
+  unfolding heap.limitsOf
+  lent-limits =
+      let d = limitOf b in
+      let size : 64 + 32 * d ≤ length (lent ws b) = omega (arith, ap length (lent-is ws b room), length-drop (start (capacityOf b)) ws, room .words) in
+      rw (ne-eqb d 0 (λ q. omega (arith, room .some)), le-ltb 4096 d (room .limit), le-ltb (length (lent ws b)) (64 + 32 * d) size)
+
+  counted : {n : ℕ} {r : counts.Count} → calls.Asking (lent ws b) (b .index) n r → {m : ℕ} → (IsBook ws b → n ≡ m) → Counting ws b m r
+  counted a e = record { outcome = a .outcome ∙ lent-limits ∙ sym (room-limits room); answer = λ o. a .answer (lent-index ws b room o) ∙ ap expired.Number (e o) }
+
+  pub counted-held : {r : counts.Count} → calls.Length (lent ws b) (b .index) r → DeadlinesHeld ws b r
+  unfolding modelOf
+  counted-held a = counted a (λ o. ap (λ (l : List ℕ). length (index.modelOf l (b .index))) (lent-is ws b room))
+
+  pub counted-entries : {r : counts.Count} → calls.HeapLength (lent ws b) (b .index) r → HeapLength ws b r
+  counted-entries a = counted a (λ o. ap (λ (l : List ℕ). heapLen (index.heapOf l (b .index))) (lent-is ws b room))
 
   pub asking-check : lists.IsList ws (b .inner) → {r : Bool} → calls.Checking (lent ws b) (b .index) r → Checking ws b r
   asking-check l k = record {
@@ -93,3 +117,7 @@ count-stored {ws} {b} {n} a e = record { answer = λ o. let q = sym e ∙ a .ans
 
 pub count-refused : {ws : List ℕ} {b : Expiring} {n : ℕ} {why : Refusal} {r : Count} → lru.Length ws (b .inner) r → r ≡ stored.Refused why → StoredCount ws b n
 count-refused a e = record { answer = λ o. absurd (let q = sym e ∙ a .answer (o .list) in let z : _≡_ {A = ℕ} 0 1 = cc in omega arith) }
+
+-- a refused count
+pub counted-none : {ws : List ℕ} {b : Expiring} {n : ℕ} {why : Refusal} → limitsOf (capacityOf b) (limitOf b) (length ws) ≡ Refused why → Counting ws b n (expired.Refused why)
+counted-none {ws} {b} e = record { outcome = sym e; answer = λ o. absurd (no-book ws b e o) }

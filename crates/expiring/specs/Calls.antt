@@ -17,6 +17,9 @@ use Rattle.time.specs.declared.duration.TtlTicks.{TtlTicks}
 use Rattle.time.specs.Duration.{isDuration, millisOf, ticksOf}
 use Rattle.lazy_heap.specs.Model as heap
 use Rattle.fast_lru.specs.Refusals.{blank}
+use Rattle.expiration_index.specs.declared.answers.Count.{Count}
+use Rattle.expiration_index.specs.declared.answers.Count.the-variants as count
+use Rattle.expiration_index.specs.Answers.{ofCount}
 use Rattle.expiration_index.specs.Index.{factor}
 use Rattle.expiration_index.specs.Calls.{noIndex}
 use Rattle.expiring.specs.declared.answers.Answer.the-variants as answers
@@ -96,6 +99,19 @@ pub record Opening (ws : List ℕ) (c d s : ℕ) (l : DefaultDuration) (ws′ : 
 pub record Checking (ws : List ℕ) (b : Expiring) (r : Bool) : Type 0 where
   pub sound : r ≡ true → IsBook ws b
   pub complete : IsBook ws b → r ≡ true
+
+-- a count of what the book holds, or refusals 1 and 2
+pub record Counting (ws : List ℕ) (b : Expiring) (value : ℕ) (r : Count) : Type 0 where
+  pub outcome : ofCount r ≡ limitsOf (capacityOf b) (limitOf b) (length ws)
+  pub answer : IsBook ws b → r ≡ count.Number value
+
+-- `deadlines_held`
+abbrev pub DeadlinesHeld : List ℕ → Expiring → Count → Type 0
+DeadlinesHeld ws b r = Counting ws b (length (modelOf ws b 0 0 .deadlines)) r
+
+-- `heap_len`
+abbrev pub HeapLength : List ℕ → Expiring → Count → Type 0
+HeapLength ws b r = Counting ws b (heap.heapLen (heapOf ws b)) r
 
 -- `set_ttl_within`, for every duration of so many ticks
 abbrev pub SettingTtl : List ℕ → Expiring → Tick → ℕ → TtlTicks → List ℕ → Reply → Type 0

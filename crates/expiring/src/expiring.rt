@@ -6,7 +6,7 @@ ghost use Rattle.fast_lru.specs.Model.{without};
 ghost use Rattle.expiring.specs.declared.answers.Answer.the-variants as answers;
 ghost use Rattle.expiring.specs.Model.{contains, peek, get, insert, remove, clear, insertWithTtl, ttlStatus, setTtl, purgeExpired, liveLen, expirations, nextDeadline, touch, recencyRank, popLru, peekLru, keep, set, drop, dropAll, rankIn};
 ghost use Rattle.expiring.specs.Book.{Room, limitsOf, capacityOf, limitOf};
-ghost use Rattle.expiring.specs.Calls.{noBook, Following, Opening, Checking, SettingTtl};
+ghost use Rattle.expiring.specs.Calls.{noBook, Following, Opening, Checking, DeadlinesHeld, HeapLength, SettingTtl};
 ghost use Rattle.expiring.specs.Steps.{ofFound, ofTold, ofOldest, ofDue, statusOf, isAccepted, defaultedBy, saturatingSum, withList, withIndex, withExpired, replying, purging, putting, DeadlineOf, Expired, Stored, StoredCount, ExpiredCount, Moved, same, Dating, Valuing, Inserting, Placing, PoppingExpired};
 ghost use Rattle.expiring.specs.Steps as steps;
 use crate::answers::Answer;
@@ -462,6 +462,26 @@ impl Expiring {
         }
     }
 
+    // How many deadlines are held, those of keys pushed out among them.
+    pub fn deadlines_held(self, words: &[u64]) -> expiration_index::Count
+        ensures { λ r. ⌜ DeadlinesHeld (now (words .entry)) self r ⌝ }
+    {
+        match self.limits(words.len()) {
+            Outcome::Refused(why) => expiration_index::Count::Refused(why),
+            Outcome::Done => self.deadlines_held_within(words),
+        }
+    }
+
+    // How many entries are in the heap, live and stale.
+    pub fn heap_len(self, words: &[u64]) -> expiration_index::Count
+        ensures { λ r. ⌜ HeapLength (now (words .entry)) self r ⌝ }
+    {
+        match self.limits(words.len()) {
+            Outcome::Refused(why) => expiration_index::Count::Refused(why),
+            Outcome::Done => self.heap_len_within(words),
+        }
+    }
+
     // The next due, keys pushed out included. Stale entries before it are discarded.
     pub fn next_deadline(self, words: &mut [u64], _tick: Tick) -> Reply
         ensures { λ r. ⌜ Following (now (words .entry)) self «_tick» nextDeadline (now (words .exit)) r ⌝ }
@@ -671,6 +691,22 @@ impl Expiring {
             expiration_index::Count::Number(n) => n,
             expiration_index::Count::Refused(_) => 0,
         }
+    }
+
+    fn deadlines_held_within(self, words: &[u64]) -> expiration_index::Count
+        requires { ⌜ Room (length (now words)) (capacityOf self) (limitOf self) ⌝ }
+        ensures { λ r. ⌜ DeadlinesHeld (now (words .entry)) self r ⌝ }
+    {
+        let start = 64 + 8 * self.inner.map.capacity;
+        self.index.len(&words[start..])
+    }
+
+    fn heap_len_within(self, words: &[u64]) -> expiration_index::Count
+        requires { ⌜ Room (length (now words)) (capacityOf self) (limitOf self) ⌝ }
+        ensures { λ r. ⌜ HeapLength (now (words .entry)) self r ⌝ }
+    {
+        let start = 64 + 8 * self.inner.map.capacity;
+        self.index.heap_len(&words[start..])
     }
 
     // ---- steps on the deadlines
