@@ -1,0 +1,135 @@
+// One line of a session.
+ghost use Rattle.session.specs.Session.{Steps, Opens, Asks, Refuses};
+use crate::answer;
+use crate::answer::Counts;
+use crate::ask;
+use crate::form;
+use crate::form::Form;
+use expiration_index::Count;
+use expiring::Answer;
+use expiring::DefaultDuration;
+use expiring::Expiring;
+use time::Outcome;
+use time::Refusal;
+use time::Tick;
+
+// A session before its first line, with its book, or after a refused first line.
+pub enum Session {
+    Waiting,
+    Open(Expiring),
+    Ended,
+}
+
+// A session after a line, and how many bytes its answer has.
+pub struct Stepped {
+    pub session: Session,
+    pub written: usize,
+}
+
+impl Session {
+    // Reads a line, without its newline, and writes its answer, which has at most 160 bytes, at the start of what is lent.
+    // Where less is lent nothing is done.
+    pub fn step(self, words: &mut [u64], line: &[u8], out: &mut [u8]) -> Stepped
+        ensures { λ r. ⌜ Steps (now (words .entry)) self (now (line .entry)) (now (out .entry)) (now (words .exit)) (now (out .exit)) r ⌝ }
+    {
+        if out.len() < 160 {
+            return Stepped {
+                session: self,
+                written: 0,
+            };
+        }
+        match self {
+            Session::Waiting => first(words, form::parse(line), out),
+            Session::Open(book) => next(book, words, form::parse(line), out),
+            Session::Ended => Stepped {
+                session: Session::Ended,
+                written: 0,
+            },
+        }
+    }
+}
+
+// The first line: a book's opening.
+fn first(words: &mut [u64], form: Form, out: &mut [u8]) -> Stepped
+{
+    match form {
+        Form::Book(capacity, limit, seq) => {
+            open(words, capacity, limit, seq, DefaultDuration::Nothing, out)
+        }
+        Form::BookWithTtl(capacity, limit, seq, secs, nanos) => {
+            let default_ttl = DefaultDuration::Of(ask::duration_of(secs, nanos));
+            open(words, capacity, limit, seq, default_ttl, out)
+        }
+        Form::At(_, _) => refused_first(out, Refusal::MalformedLine),
+        Form::Nothing => refused_first(out, Refusal::MalformedLine),
+    }
+}
+
+fn open(words: &mut [u64], capacity: u64, limit: u64, seq: u64, default_ttl: DefaultDuration, out: &mut [u8]) -> Stepped
+{
+    if 128 < capacity {
+        return refused_first(out, Refusal::LimitOutOfRange);
+    }
+    if 128 < limit {
+        return refused_first(out, Refusal::LimitOutOfRange);
+    }
+    let opened = Expiring::open(words, capacity as usize, limit as usize, seq, default_ttl);
+    let book = opened.book;
+    let outcome = opened.outcome;
+    match outcome {
+        Outcome::Done => Stepped {
+            session: Session::Open(book),
+            written: 0,
+        },
+        Outcome::Refused(why) => refused_first(out, why),
+    }
+}
+
+fn refused_first(out: &mut [u8], why: Refusal) -> Stepped
+{
+    let counts = Counts {
+        discarded: 0,
+        heap: 0,
+        held: 0,
+    };
+    Stepped {
+        session: Session::Ended,
+        written: answer::print(out, Answer::Refused(why), counts),
+    }
+}
+
+// A later line: a call.
+fn next(book: Expiring, words: &mut [u64], form: Form, out: &mut [u8]) -> Stepped
+{
+    match form {
+        Form::At(tick, call) => {
+            let reply = ask::ask(book, words, Tick(tick), call);
+            let book = reply.book;
+            let answer = reply.answer;
+            told(book, words, answer, reply.discarded as u64, out)
+        }
+        _ => told(book, words, Answer::Refused(Refusal::MalformedLine), 0, out),
+    }
+}
+
+// A book's answer, with the counts as they stand.
+fn told(book: Expiring, words: &[u64], answer: Answer, discarded: u64, out: &mut [u8]) -> Stepped
+{
+    let counts = Counts {
+        discarded,
+        heap: number_of(book.heap_len(words)),
+        held: number_of(book.deadlines_held(words)),
+    };
+    Stepped {
+        session: Session::Open(book),
+        written: answer::print(out, answer, counts),
+    }
+}
+
+fn number_of(count: Count) -> u64
+{
+    match count {
+        Count::Number(n) => n as u64,
+        Count::Refused(_) => 0,
+    }
+}
