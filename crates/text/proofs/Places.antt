@@ -42,6 +42,25 @@ module _ (v : ℕ) (line : List ℕ) (i : ℕ) where
       unfolding readOn
       on-digit h = rw (add-one i) (rw (drop-cons line i 0 more) (simp (digit, lt-ltb (v * 10 + (getD line i 0 - 48)) (2 ^ 64) h)))
 
+-- ---- the number that starts at a place
+module _ (line : List ℕ) (i : ℕ) where
+  pub at-end : length line ≤ i → readNumber (drop i line) ≡ none
+  unfolding readNumber
+  at-end h = rw (drop-of-length-le line h)
+
+  module _ (more : i < length line) where
+    pub at-other : isDigit (getD line i 0) ≡ false → readNumber (drop i line) ≡ none
+    unfolding readNumber
+    at-other h = rw (drop-cons line i 0 more) (simp h)
+
+    pub at-zero : getD line i 0 ≡ 48 → readNumber (drop i line) ≡ some (0, drop (i + 1) line)
+    unfolding readNumber
+    at-zero h = rw (add-one i) (rw (drop-cons line i 0 more) (simp h))
+
+    pub at-digit : isDigit (getD line i 0) ≡ true → (getD line i 0 ≡ 48 → ⊥) → readNumber (drop i line) ≡ readOn (getD line i 0 - 48) (drop (i + 1) line)
+    unfolding readNumber
+    at-digit h n = rw (add-one i) (rw (drop-cons line i 0 more) (simp (h, ne-eqb (getD line i 0) 48 n)))
+
 -- ---- an answer that is no number
 module _ (line : List ℕ) (from : ℕ) (r : Number) (nought : r .«is_number» ≡ false) where
   none-in : numberIn line r ≡ none
