@@ -1,2 +1,4 @@
 pub mod Places
 pub mod Formats
+pub mod Decimals
+pub mod Stores
