@@ -2,3 +2,4 @@ pub mod Places
 pub mod Formats
 pub mod Decimals
 pub mod Stores
+pub mod Fills

@@ -22,7 +22,7 @@ number-at-spec =
     (λ c. search needs)
     (λ c. search needs)
     (λ c κs. search needs)
-    (λ c. 
+    (λ c.
     let i = c .before .before .before .before .before .if1 .left in
     let d = is-digit _ (c .before .before .before .if2 .left) (c .before .before .if3 .left) in
     record { number = c .digits-from .ensures .number ∙ sym (at-digit _ _ i d (c .before .if4 .left)); within = c .digits-from .ensures .within }))

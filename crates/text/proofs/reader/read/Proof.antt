@@ -55,7 +55,7 @@ read-spec =
     (λ c.
     let l = c .before .before in
     ⊎-elim
-        (λ w. rw (w .5) (rw (w .6) (number-on (l .before .loop .inv) (l .loop-test .taken) (w .0 .taken) _ (w .1 .ensures) (not-false _ (w .3 .left)) (w .4 .left))))
-        (λ w. rw (w .5) (rw (w .6) (byte-on (l .before .loop .inv) (l .loop-test .taken) (w .0 .left) (w .1 .left) (w .4 .left))))
-        (c .if2 .came))
+    (λ w. rw (w .5) (rw (w .6) (number-on (l .before .loop .inv) (l .loop-test .taken) (w .0 .taken) _ (w .1 .ensures) (not-false _ (w .3 .left)) (w .4 .left))))
+    (λ w. rw (w .5) (rw (w .6) (byte-on (l .before .loop .inv) (l .loop-test .taken) (w .0 .left) (w .1 .left) (w .4 .left))))
+    (c .if2 .came))
     (λ c. ends (c .before .loop .inv) (c .loop-test .left)))

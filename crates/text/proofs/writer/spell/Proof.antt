@@ -24,7 +24,7 @@ spell-spec =
     Inv-loop
     μ-loop
     (λ c. search needs)
-    (λ c. 
+    (λ c.
     let p : c .args .at + c .args .count - c .args .at ≡ c .args .count = omega arith in
     (omega arith, omega arith, refl, rw p refl))
     (λ c. search needs)
