@@ -1,4 +1,7 @@
 // Reading by a format.
+ghost use mathlib.Core.Path.{_≡_};
+ghost use mathlib.Core.Bool.{false};
+ghost use lib.ListN.{length};
 ghost use Rattle.text.specs.Reading.{Reads};
 use crate::number;
 
@@ -9,7 +12,9 @@ pub struct Fields {
     pub numbers: [u64; 5],
 }
 
-fn no_match() -> Fields {
+fn no_match() -> Fields
+    ensures { λ r. ⌜ (r .«is_match» ≡ false) × (length (r .numbers) ≡ 5) ⌝ }
+{
     Fields {
         is_match: false,
         end: 0,

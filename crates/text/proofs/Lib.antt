@@ -1,0 +1,5 @@
+pub mod Places
+pub mod Formats
+pub mod Decimals
+pub mod Stores
+pub mod Fills
