@@ -17,19 +17,52 @@ pub fn print(out: &mut [u8], answer: Answer, counts: Counts) -> usize
 {
     match answer {
         Answer::Nothing => bare(out, b"(none (thrown 0) (heap 0) (held 0))\n", counts),
-        Answer::Value(v) => one(out, b"((value 0) (thrown 0) (heap 0) (held 0))\n", v, counts),
+        Answer::Value(v) => one(
+            out,
+            b"((value 0) (thrown 0) (heap 0) (held 0))\n",
+            v,
+            counts,
+        ),
         Answer::Yes => bare(out, b"(yes (thrown 0) (heap 0) (held 0))\n", counts),
         Answer::No => bare(out, b"(no (thrown 0) (heap 0) (held 0))\n", counts),
         Answer::Missing => bare(out, b"(missing (thrown 0) (heap 0) (held 0))\n", counts),
         Answer::Immortal => bare(out, b"(immortal (thrown 0) (heap 0) (held 0))\n", counts),
         Answer::Expired => bare(out, b"(expired (thrown 0) (heap 0) (held 0))\n", counts),
-        Answer::Live(ttl, deadline) => two(out, b"((live 0 0) (thrown 0) (heap 0) (held 0))\n", ttl.0, deadline.0, counts),
-        Answer::Count(n) => one(out, b"((count 0) (thrown 0) (heap 0) (held 0))\n", n, counts),
-        Answer::Due(key, deadline) => two(out, b"((due 0 0) (thrown 0) (heap 0) (held 0))\n", key, deadline.0, counts),
-        Answer::Item(key, value) => two(out, b"((item 0 0) (thrown 0) (heap 0) (held 0))\n", key, value, counts),
+        Answer::Live(ttl, deadline) => two(
+            out,
+            b"((live 0 0) (thrown 0) (heap 0) (held 0))\n",
+            ttl.0,
+            deadline.0,
+            counts,
+        ),
+        Answer::Count(n) => one(
+            out,
+            b"((count 0) (thrown 0) (heap 0) (held 0))\n",
+            n,
+            counts,
+        ),
+        Answer::Due(key, deadline) => two(
+            out,
+            b"((due 0 0) (thrown 0) (heap 0) (held 0))\n",
+            key,
+            deadline.0,
+            counts,
+        ),
+        Answer::Item(key, value) => two(
+            out,
+            b"((item 0 0) (thrown 0) (heap 0) (held 0))\n",
+            key,
+            value,
+            counts,
+        ),
         Answer::Rank(n) => one(out, b"((rank 0) (thrown 0) (heap 0) (held 0))\n", n, counts),
         Answer::Done => bare(out, b"(done (thrown 0) (heap 0) (held 0))\n", counts),
-        Answer::Refused(why) => one(out, b"((refused 0) (thrown 0) (heap 0) (held 0))\n", why.number(), counts),
+        Answer::Refused(why) => one(
+            out,
+            b"((refused 0) (thrown 0) (heap 0) (held 0))\n",
+            why.number(),
+            counts,
+        ),
     }
 }
 

@@ -42,7 +42,7 @@ pub fn parse(line: &[u8]) -> Form
     let at = text::read(line, 0, b"(at 0 (");
     if at.is_match {
         let numbers = at.numbers;
-        return call(line, at.end, numbers[0]);
+        return call_at(line, at.end, numbers[0]);
     }
     book(line)
 }
@@ -79,7 +79,7 @@ fn book(line: &[u8]) -> Form
 }
 
 // A call at a tick, from its name on, with the two brackets behind it. Its first letter tells which it can be.
-fn call(line: &[u8], at: usize, tick: u64) -> Form
+fn call_at(line: &[u8], at: usize, tick: u64) -> Form
     ensures { λ r. ⌜ r ≡ callIn tick (drop at (now (line .entry))) ⌝ }
 {
     if line.len() <= at {

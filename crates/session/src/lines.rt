@@ -10,8 +10,7 @@ pub struct Ran {
 
 // Reads lines that end in a newline, one after the other, and writes their answers, until there is no such line left or less
 // than 160 bytes of room.
-pub fn run(session: Session, words: &mut [u64], bytes: &[u8], out: &mut [u8]) -> Ran
-{
+pub fn run(session: Session, words: &mut [u64], bytes: &[u8], out: &mut [u8]) -> Ran {
     let mut ran = Ran {
         session,
         read: 0,
@@ -29,8 +28,7 @@ pub fn run(session: Session, words: &mut [u64], bytes: &[u8], out: &mut [u8]) ->
 }
 
 // Where the first newline from a place on is, or else the end.
-fn newline(bytes: &[u8], from: usize) -> usize
-{
+fn newline(bytes: &[u8], from: usize) -> usize {
     let mut i = from;
     while i < bytes.len() {
         if bytes[i] == b'\n' {
@@ -42,8 +40,7 @@ fn newline(bytes: &[u8], from: usize) -> usize
 }
 
 // The line from what is read up to its newline.
-fn line(ran: Ran, words: &mut [u64], bytes: &[u8], end: usize, out: &mut [u8]) -> Ran
-{
+fn line(ran: Ran, words: &mut [u64], bytes: &[u8], end: usize, out: &mut [u8]) -> Ran {
     let session = ran.session;
     let read = ran.read;
     let written = ran.written;

@@ -1,5 +1,8 @@
 // One line of a session.
-ghost use Rattle.session.specs.Session.{Steps, Opens, Asks, Refuses};
+ghost use mathlib.Core.Path.{_≡_};
+ghost use Prim.Native.Nat.{_≤_};
+ghost use lib.ListN.{length};
+ghost use Rattle.session.specs.Session.{waiting, step, opening, room, Steps, Begins, Refuses, Continues, Tells, numberIn};
 use crate::answer;
 use crate::answer::Counts;
 use crate::ask;
@@ -51,6 +54,8 @@ impl Session {
 
 // The first line: a book's opening.
 fn first(words: &mut [u64], form: Form, out: &mut [u8]) -> Stepped
+    requires { ⌜ room ≤ length (now out) ⌝ }
+    ensures { λ r. ⌜ Begins (now (words .entry)) (now (out .entry)) (step (length (now (words .entry))) waiting form) (now (words .exit)) (now (out .exit)) r ⌝ }
 {
     match form {
         Form::Book(capacity, limit, seq) => {
@@ -65,7 +70,16 @@ fn first(words: &mut [u64], form: Form, out: &mut [u8]) -> Stepped
     }
 }
 
-fn open(words: &mut [u64], capacity: u64, limit: u64, seq: u64, default_ttl: DefaultDuration, out: &mut [u8]) -> Stepped
+fn open(
+    words: &mut [u64],
+    capacity: u64,
+    limit: u64,
+    seq: u64,
+    default_ttl: DefaultDuration,
+    out: &mut [u8],
+) -> Stepped
+    requires { ⌜ room ≤ length (now out) ⌝ }
+    ensures { λ r. ⌜ Begins (now (words .entry)) (now (out .entry)) (opening (length (now (words .entry))) capacity limit seq «default_ttl») (now (words .exit)) (now (out .exit)) r ⌝ }
 {
     if 128 < capacity {
         return refused_first(out, Refusal::LimitOutOfRange);
@@ -86,6 +100,8 @@ fn open(words: &mut [u64], capacity: u64, limit: u64, seq: u64, default_ttl: Def
 }
 
 fn refused_first(out: &mut [u8], why: Refusal) -> Stepped
+    requires { ⌜ room ≤ length (now out) ⌝ }
+    ensures { λ r. ⌜ Refuses (now (out .entry)) why (now (out .exit)) r ⌝ }
 {
     let counts = Counts {
         discarded: 0,
@@ -100,6 +116,8 @@ fn refused_first(out: &mut [u8], why: Refusal) -> Stepped
 
 // A later line: a call.
 fn next(book: Expiring, words: &mut [u64], form: Form, out: &mut [u8]) -> Stepped
+    requires { ⌜ room ≤ length (now out) ⌝ }
+    ensures { λ r. ⌜ Continues (now (words .entry)) book form (now (out .entry)) (now (words .exit)) (now (out .exit)) r ⌝ }
 {
     match form {
         Form::At(tick, call) => {
@@ -114,6 +132,8 @@ fn next(book: Expiring, words: &mut [u64], form: Form, out: &mut [u8]) -> Steppe
 
 // A book's answer, with the counts as they stand.
 fn told(book: Expiring, words: &[u64], answer: Answer, discarded: u64, out: &mut [u8]) -> Stepped
+    requires { ⌜ room ≤ length (now out) ⌝ }
+    ensures { λ r. ⌜ Tells (now (words .entry)) book answer discarded (now (out .entry)) (now (out .exit)) r ⌝ }
 {
     let counts = Counts {
         discarded,
@@ -127,6 +147,7 @@ fn told(book: Expiring, words: &[u64], answer: Answer, discarded: u64, out: &mut
 }
 
 fn number_of(count: Count) -> u64
+    ensures { λ r. ⌜ r ≡ numberIn count ⌝ }
 {
     match count {
         Count::Number(n) => n as u64,

@@ -42,7 +42,11 @@ fn read_block(reader: Reader, words: &mut [u64], bytes: &mut [u8], out: &mut [u8
     let session = reader.session;
     let kept = reader.kept;
     if bytes.len() < kept {
-        return Reader { session, kept, is_done: true };
+        return Reader {
+            session,
+            kept,
+            is_done: true,
+        };
     }
     let got = libc::read(STDIN_FILENO, &mut bytes[kept..]);
     let n = io::count(got, &bytes[kept..]);
@@ -52,16 +56,32 @@ fn read_block(reader: Reader, words: &mut [u64], bytes: &mut [u8], out: &mut [u8
     answer_lines(session, words, bytes, kept + n, out)
 }
 
-fn last_line(session: Session, kept: usize, words: &mut [u64], bytes: &[u8], out: &mut [u8]) -> Reader {
+fn last_line(
+    session: Session,
+    kept: usize,
+    words: &mut [u64],
+    bytes: &[u8],
+    out: &mut [u8],
+) -> Reader {
     if 0 < kept {
         let stepped = session.step(words, &bytes[..kept], out);
         io::write_all(STDOUT_FILENO, &out[..stepped.written]);
     }
-    Reader { session: Session::Ended, kept: 0, is_done: true }
+    Reader {
+        session: Session::Ended,
+        kept: 0,
+        is_done: true,
+    }
 }
 
 // Answers the lines of the first bytes, and moves what is left of them to the start.
-fn answer_lines(session: Session, words: &mut [u64], bytes: &mut [u8], size: usize, out: &mut [u8]) -> Reader {
+fn answer_lines(
+    session: Session,
+    words: &mut [u64],
+    bytes: &mut [u8],
+    size: usize,
+    out: &mut [u8],
+) -> Reader {
     let mut session = session;
     let mut start = 0;
     let mut turns = size;
@@ -69,7 +89,11 @@ fn answer_lines(session: Session, words: &mut [u64], bytes: &mut [u8], size: usi
         let ran = session::run(session, words, &bytes[start..size], out);
         session = ran.session;
         if !io::write_all(STDOUT_FILENO, &out[..ran.written]) {
-            return Reader { session: Session::Ended, kept: 0, is_done: true };
+            return Reader {
+                session: Session::Ended,
+                kept: 0,
+                is_done: true,
+            };
         }
         start += ran.read;
         if ran.read == 0 {
@@ -79,7 +103,11 @@ fn answer_lines(session: Session, words: &mut [u64], bytes: &mut [u8], size: usi
     }
     let kept = kept_of(size - start);
     move_to_front(bytes, start, kept);
-    Reader { session, kept, is_done: false }
+    Reader {
+        session,
+        kept,
+        is_done: false,
+    }
 }
 
 fn move_to_front(bytes: &mut [u8], start: usize, count: usize) {
