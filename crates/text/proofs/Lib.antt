@@ -6,3 +6,4 @@ pub mod Fills
 pub mod Numbers
 pub mod Texts
 pub mod Laws
+pub mod Samples
