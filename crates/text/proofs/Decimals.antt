@@ -60,6 +60,23 @@ unfolding lastDigits
 length-last zero n = refl
 length-last (suc k) n = simp (length-append, length-last k (n / 10)) (omega arith)
 
+-- ---- room for one more digit than there are changes nothing
+pub same-digits : (k n : ℕ) → n < 10 ^ suc k → decimalIn (suc (suc k)) n ≡ decimalIn (suc k) n
+same-digits zero n f = go (last 1 n) (last 0 n)
+  where
+    go : Last 1 n → Last 0 n → decimalIn 2 n ≡ decimalIn 1 n
+    go (only h e) (only g d) = e ∙ sym d
+    go (after h e) (only g d) = absurd (omega arith)
+    go (after h e) (after g d) = absurd (omega arith)
+    go (only h e) (after g d) = absurd (omega arith)
+same-digits (suc k) n f = go (last (suc (suc k)) n) (last (suc k) n) (same-digits k (n / 10) (omega (arith, rw pow-suc at f)))
+  where
+    go : Last (suc (suc k)) n → Last (suc k) n → decimalIn (suc (suc k)) (n / 10) ≡ decimalIn (suc k) (n / 10) → decimalIn (suc (suc (suc k))) n ≡ decimalIn (suc (suc k)) n
+    go (only h e) (only g d) ih = e ∙ sym d
+    go (only h e) (after g d) ih = absurd (omega arith)
+    go (after h e) (only g d) ih = absurd (omega arith)
+    go (after h e) (after g d) ih = e ∙ ap (λ (l : List ℕ). l ++ (digit (n % 10) ∷ [])) ih ∙ sym d
+
 -- ---- counting them: so many are counted, and the rest are to be
 pub record Counted (n count rest : ℕ) : Type 0 where
   pub left : ℕ

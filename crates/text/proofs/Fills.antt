@@ -2,7 +2,7 @@
 use mathlib.Core.Path.{_≡_, refl, sym, ap, _∙_}
 use mathlib.Core.Bool.{Bool, true, false, cond}
 use mathlib.Core.List.{List, [], _∷_, _++_}
-use Prim.Native.Nat.{ℕ, suc, _+_, _<_, _≤_}
+use Prim.Native.Nat.{ℕ, suc, _+_, _*_, _<_, _≤_}
 use native.Mathlib.Numerals.{add-one}
 use native.Mathlib.Omega.{arith}
 use borrow.Author.Tests.{ne-eqb}
@@ -11,7 +11,7 @@ use lib.ListN.{length, length-append, length-set, length-drop, getD, drop, set, 
 use lib.Seq.{sets, drop-cons}
 use Rattle.text.specs.Text.{decimal, fill}
 use Rattle.text.specs.Writing.{WritesNumber, Writes}
-use Rattle.text.proofs.Decimals.{size-pos}
+use Rattle.text.proofs.Decimals.{size-le, size-pos}
 use Rattle.text.proofs.Stores.{sets-append}
 
 -- ---- a byte of the format that is taken as it is
@@ -20,10 +20,14 @@ unfolding fill
 fill-none c [] = refl
 fill-none c (d ∷ f) = refl
 
-fill-other : (c : ℕ) (f ns : List ℕ) → (c ≡ 48 → ⊥) → fill (c ∷ f) ns ≡ c ∷ fill f ns
+pub fill-other : (c : ℕ) (f ns : List ℕ) → (c ≡ 48 → ⊥) → fill (c ∷ f) ns ≡ c ∷ fill f ns
 unfolding fill
 fill-other c f [] h = fill-none c f
 fill-other c f (n ∷ ns) h = simp (ne-eqb c 48 h)
+
+pub fill-number : (f : List ℕ) (n : ℕ) (ns : List ℕ) → fill (48 ∷ f) (n ∷ ns) ≡ decimal n ++ fill f ns
+unfolding fill
+fill-number f n ns = refl
 
 fill-pos : (f ns : List ℕ) → 0 < length f → 0 < length (fill f ns)
 unfolding fill
@@ -34,6 +38,16 @@ fill-pos (c ∷ f) (n ∷ ns) h = go (eqb c 48)
     go : (b : Bool) → 0 < length (cond b (decimal n ++ fill f ns) (c ∷ fill f (n ∷ ns)))
     go true = simp length-append (omega (arith, size-pos 19 n))
     go false = omega arith
+
+pub fill-length : (f ns : List ℕ) → length (fill f ns) ≤ length f + 19 * length ns
+unfolding fill
+fill-length [] ns = omega arith
+fill-length (c ∷ f) [] = omega arith
+fill-length (c ∷ f) (n ∷ ns) = go (eqb c 48) (fill-length f ns) (fill-length f (n ∷ ns))
+  where
+    go : (b : Bool) → length (fill f ns) ≤ length f + 19 * length ns → length (fill f (n ∷ ns)) ≤ length f + 19 * length (n ∷ ns) → length (cond b (decimal n ++ fill f ns) (c ∷ fill f (n ∷ ns))) ≤ length (c ∷ f) + 19 * length (n ∷ ns)
+    go true h g = simp length-append (omega (arith, size-le 20 n))
+    go false h g = omega arith
 
 -- ---- a place of the format
 module _ (f ns : List ℕ) (i : ℕ) (more : i < length f) where

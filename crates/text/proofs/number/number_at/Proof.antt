@@ -18,11 +18,11 @@ number-at-spec =
     (λ c κs. search needs)
     (λ c. none-at _ _ _ (c .no-number3 .ensures) (at-other _ _ (c .before .before .before .before .if1 .left) (above-digits _ (c .before .if3 .taken))))
     (λ c. search needs)
-    (λ c. record { number = sym (at-zero _ _ (c .before .before .before .before .if1 .left) (c .if4 .taken)); within = λ _. omega arith })
+    (λ c. record { number = sym (at-zero _ _ (c .before .before .before .before .if1 .left) (omega arith)); within = λ _. omega arith })
     (λ c. search needs)
     (λ c. search needs)
     (λ c κs. search needs)
     (λ c.
     let i = c .before .before .before .before .before .if1 .left in
     let d = is-digit _ (c .before .before .before .if2 .left) (c .before .before .if3 .left) in
-    record { number = c .digits-from .ensures .number ∙ sym (at-digit _ _ i d (c .before .if4 .left)); within = c .digits-from .ensures .within }))
+    record { number = c .digits-from .ensures .number ∙ sym (at-digit _ _ i d (λ z. omega arith)); within = c .digits-from .ensures .within }))
