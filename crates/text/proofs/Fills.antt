@@ -1,5 +1,5 @@
 -- Writing by a format, a byte of the format at a time.
-use mathlib.Core.Path.{_≡_, refl, sym, ap, _∙_}
+use mathlib.Core.Path.{_≡_, refl, sym, _∙_}
 use mathlib.Core.Bool.{Bool, true, false, cond}
 use mathlib.Core.List.{List, [], _∷_, _++_}
 use Prim.Native.Nat.{ℕ, suc, _+_, _*_, _<_, _≤_}
@@ -39,11 +39,11 @@ fill-pos (c ∷ f) (n ∷ ns) h = go (eqb c 48)
     go true = simp length-append (omega (arith, size-pos 19 n))
     go false = omega arith
 
-pub fill-length : (f ns : List ℕ) → length (fill f ns) ≤ length f + 19 * length ns
+pub fill-size : (f ns : List ℕ) → length (fill f ns) ≤ length f + 19 * length ns
 unfolding fill
-fill-length [] ns = omega arith
-fill-length (c ∷ f) [] = omega arith
-fill-length (c ∷ f) (n ∷ ns) = go (eqb c 48) (fill-length f ns) (fill-length f (n ∷ ns))
+fill-size [] ns = omega arith
+fill-size (c ∷ f) [] = omega arith
+fill-size (c ∷ f) (n ∷ ns) = go (eqb c 48) (fill-size f ns) (fill-size f (n ∷ ns))
   where
     go : (b : Bool) → length (fill f ns) ≤ length f + 19 * length ns → length (fill f (n ∷ ns)) ≤ length f + 19 * length (n ∷ ns) → length (cond b (decimal n ++ fill f ns) (c ∷ fill f (n ∷ ns))) ≤ length (c ∷ f) + 19 * length (n ∷ ns)
     go true h g = simp length-append (omega (arith, size-le 20 n))

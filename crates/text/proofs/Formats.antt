@@ -1,9 +1,9 @@
 -- Reading by a format, a byte of the format at a time.
-use mathlib.Core.Path.{_≡_, refl, sym, ap, _∙_}
-use mathlib.Core.Bool.{Bool, true, false, cond, true≢false}
+use mathlib.Core.Path.{_≡_, refl, sym, _∙_}
+use mathlib.Core.Bool.{Bool, true, false, true≢false}
 use mathlib.Core.List.{List, [], _∷_}
-use mathlib.Core.Option.{none, some}
-use Prim.Native.Nat.{ℕ, suc, _+_, _<_, _≤_}
+use mathlib.Core.Option.{none}
+use Prim.Native.Nat.{ℕ, _+_, _<_, _≤_}
 use native.Mathlib.Numerals.{add-one}
 use native.Mathlib.Omega.{arith}
 use borrow.Author.Tests.{lt-ltb, le-ltb, eq-eqb, ne-eqb}
@@ -11,7 +11,7 @@ use lib.ListN.{length, length-set, getD, drop, set, drop-of-length-le}
 use lib.Seq.{drop-cons}
 use Rattle.text.specs.declared.number.Number.{Number}
 use Rattle.text.specs.declared.reader.Fields.{Fields}
-use Rattle.text.specs.Reading.{andThen, readNumber, readByte, readFrom, readIn, numberIn, ReadsNumber, fieldsIn, Reads}
+use Rattle.text.specs.Reading.{readFrom, readIn, ReadsNumber, Reads}
 
 -- i bytes of the format are passed, and k numbers are read
 pub record Reached (line : List ℕ) (at : ℕ) (f : List ℕ) (a : Fields) (k i : ℕ) : Type 0 where

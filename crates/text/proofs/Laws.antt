@@ -1,32 +1,29 @@
 -- What the crates above cite: reading is the way back from writing, and how long a text is.
-use mathlib.Core.Path.{_≡_, refl, sym, _∙_}
-use mathlib.Core.Bool.{false, cond}
+use mathlib.Core.Path.{_≡_, refl, sym}
+use mathlib.Core.Bool.{true, false}
 use mathlib.Core.List.{List, [], _∷_, _++_}
 use mathlib.Core.Option.{some}
-use Prim.Native.Nat.{ℕ, _+_, _*_, _^_, _<_, _≤_}
-use native.Mathlib.Nat.{eq-zero-or-pos}
+use Prim.Native.Nat.{ℕ, _+_, _^_, _<_, _≤_}
 use native.Mathlib.Omega.{arith}
-use mathlib.Core.Logic.{⊎-elim}
 use lib.ListN.{length, getD, take, drop}
 use lib.Seq.{sets, sets-eq, take-at}
-use Rattle.text.specs.Text.{decimalIn, decimal, fill}
-use Rattle.text.specs.Reading.{isDigit, readOn, readNumber, readIn}
+use Rattle.text.specs.Text.{decimal, fill}
+use Rattle.text.specs.Reading.{isDigit, readNumber, readIn}
 use Rattle.text.specs.Writing.{Writes}
 use Rattle.text.proofs.Decimals.{size-le}
-use Rattle.text.proofs.Numbers.{read-decimal}
-use Rattle.text.proofs.Fills.{fill-length}
+use Rattle.text.proofs.Back.{slots, parted, number-back, format-back}
 use Rattle.text.proofs.Texts.{Found, zeros-small, found}
+pub use Rattle.text.proofs.Fills.{fill-size}
 
--- ---- a number is read back from its text
+-- ---- what is written is read back
 pub number-read : (v c : ℕ) (s : List ℕ) → v < 2 ^ 64 → isDigit c ≡ false → readNumber (decimal v ++ (c ∷ s)) ≡ some (v, c ∷ s)
-unfolding readNumber readOn decimalIn
-number-read v c s b h =
-    ⊎-elim
-    (λ z. rw z refl)
-    (λ p. read-decimal 20 v (c ∷ s) p (omega arith) b ∙ simp h)
-    (eq-zero-or-pos v)
+number-read v c s b h = number-back v (c ∷ s) b (rw h refl)
 
--- ---- what a format reads
+-- the numbers of a format, none of which goes on into what comes after it
+pub read-fill : (f ns rest : List ℕ) → parted f rest ≡ true → slots f ≡ length ns → length ns ≤ 5 → ((i : ℕ) → getD ns i 0 < 2 ^ 64) → readIn f (fill f ns ++ rest) ≡ some (sets (0 ∷ 0 ∷ 0 ∷ 0 ∷ 0 ∷ []) 0 ns, rest)
+read-fill f ns rest p e l b = format-back f rest 0 (0 ∷ 0 ∷ 0 ∷ 0 ∷ 0 ∷ []) ns p e (omega arith) b
+
+-- ---- what is read was written
 module _ (f s ns rest : List ℕ) (e : readIn f s ≡ some (ns, rest)) where
   read-found : Found 0 (0 ∷ 0 ∷ 0 ∷ 0 ∷ 0 ∷ []) f s ns rest
   read-found = found f s 0 (0 ∷ 0 ∷ 0 ∷ 0 ∷ 0 ∷ []) ns rest refl e
@@ -43,9 +40,6 @@ module _ (f s ns rest : List ℕ) (e : readIn f s ≡ some (ns, rest)) where
 -- ---- how long a text is
 pub decimal-size : (n : ℕ) → n < 2 ^ 64 → length (decimal n) ≤ 20
 decimal-size n h = size-le 20 n
-
-pub fill-size : (f ns : List ℕ) → length (fill f ns) ≤ length f + 19 * length ns
-fill-size = fill-length
 
 -- ---- what stands in the slice after writing, where there was room
 pub write-text : {out f ns out′ : List ℕ} {r : ℕ} → Writes out f ns out′ r → length (fill f ns) ≤ length out → take r out′ ≡ fill f ns

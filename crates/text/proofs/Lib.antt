@@ -5,5 +5,6 @@ pub mod Stores
 pub mod Fills
 pub mod Numbers
 pub mod Texts
+pub mod Back
 pub mod Laws
 pub mod Samples

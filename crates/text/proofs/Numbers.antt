@@ -45,7 +45,7 @@ same-found {A} {B} {a} {c} {b} {d} e =
     let q : _≡_ {A = A × B} (a, b) (c, d) = cc in
     (ap (λ (x : A × B). x .0) q, ap (λ (x : A × B). x .1) q)
 
-both : (a b : Bool) → a && b ≡ true → (a ≡ true) × (b ≡ true)
+pub both : (a b : Bool) → a && b ≡ true → (a ≡ true) × (b ≡ true)
 both true true h = (refl, refl)
 both true false h = absurd (true≢false (sym h))
 both false b h = absurd (true≢false (sym h))
@@ -75,19 +75,19 @@ decimal-next v c p lo hi b = go (last 19 (v * 10 + (c - 48)))
         let d : digit ((v * 10 + (c - 48)) % 10) ≡ c = omega arith in
         e ∙ rw q (rw d (rw (same-digits 18 v (omega arith)) refl))
 
--- what is read, the text that it is read from being a number's and s
-pub record Number (t s : List ℕ) (n : ℕ) (r : List ℕ) : Type 0 where
+-- the text t and s is that of n, and r
+pub record Split (t s : List ℕ) (n : ℕ) (r : List ℕ) : Type 0 where
   pub text : t ++ s ≡ decimal n ++ r
   pub small : n < 2 ^ 64
 
-on-sound : (v : ℕ) (s : List ℕ) (n : ℕ) (r : List ℕ) → 0 < v → v < 2 ^ 64 → readOn v s ≡ some (n, r) → Number (decimal v) s n r
+on-sound : (v : ℕ) (s : List ℕ) (n : ℕ) (r : List ℕ) → 0 < v → v < 2 ^ 64 → readOn v s ≡ some (n, r) → Split (decimal v) s n r
 unfolding readOn
 on-sound v [] n r p b e =
     let (q, z) = same-found e in
     record { text = rw q (rw z refl); small = omega arith }
 on-sound v (c ∷ s) n r p b e = go (isDigit c) refl (ltb (v * 10 + (c - 48)) (2 ^ 64)) refl e (on-sound (v * 10 + (c - 48)) s n r (omega arith))
   where
-    go : (d : Bool) → isDigit c ≡ d → (l : Bool) → ltb (v * 10 + (c - 48)) (2 ^ 64) ≡ l → cond d (cond l (readOn (v * 10 + (c - 48)) s) none) (some (v, c ∷ s)) ≡ some (n, r) → (v * 10 + (c - 48) < 2 ^ 64 → readOn (v * 10 + (c - 48)) s ≡ some (n, r) → Number (decimal (v * 10 + (c - 48))) s n r) → Number (decimal v) (c ∷ s) n r
+    go : (d : Bool) → isDigit c ≡ d → (l : Bool) → ltb (v * 10 + (c - 48)) (2 ^ 64) ≡ l → cond d (cond l (readOn (v * 10 + (c - 48)) s) none) (some (v, c ∷ s)) ≡ some (n, r) → (v * 10 + (c - 48) < 2 ^ 64 → readOn (v * 10 + (c - 48)) s ≡ some (n, r) → Split (decimal (v * 10 + (c - 48))) s n r) → Split (decimal v) (c ∷ s) n r
     go true d true l e ih =
         let (lo, hi) = digit-bounds c d in
         let m = ltb-true (v * 10 + (c - 48)) (2 ^ 64) l in
@@ -98,12 +98,12 @@ on-sound v (c ∷ s) n r p b e = go (isDigit c) refl (ltb (v * 10 + (c - 48)) (2
         let (q, z) = same-found e in
         record { text = rw q (rw z refl); small = omega arith }
 
-pub number-sound : (s : List ℕ) (n : ℕ) (r : List ℕ) → readNumber s ≡ some (n, r) → Number [] s n r
+pub number-sound : (s : List ℕ) (n : ℕ) (r : List ℕ) → readNumber s ≡ some (n, r) → Split [] s n r
 unfolding readNumber decimalIn
 number-sound [] n r e = absurd (not-found e)
 number-sound (c ∷ s) n r e = go (isDigit c) refl (eqb c 48) refl e
   where
-    go : (d : Bool) → isDigit c ≡ d → (z : Bool) → eqb c 48 ≡ z → cond d (cond z (some (0, s)) (readOn (c - 48) s)) none ≡ some (n, r) → Number [] (c ∷ s) n r
+    go : (d : Bool) → isDigit c ≡ d → (z : Bool) → eqb c 48 ≡ z → cond d (cond z (some (0, s)) (readOn (c - 48) s)) none ≡ some (n, r) → Split [] (c ∷ s) n r
     go true d true z e =
         let (q, t) = same-found e in
         record { text = rw (eqb-true c 48 z) (rw (sym q) (rw t refl)); small = omega arith }

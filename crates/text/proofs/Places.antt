@@ -1,12 +1,12 @@
 -- Reading from a place of a line on, a byte at a time.
-use mathlib.Core.Path.{_≡_, refl, sym, ap, _∙_}
-use mathlib.Core.Bool.{true, false, cond, _&&_, true≢false}
-use mathlib.Core.List.{List, [], _∷_}
+use mathlib.Core.Path.{_≡_, sym, _∙_}
+use mathlib.Core.Bool.{true, false, true≢false}
+use mathlib.Core.List.{List}
 use mathlib.Core.Option.{none, some}
-use Prim.Native.Nat.{ℕ, suc, _+_, _-_, _*_, _^_, _<_, _≤_}
+use Prim.Native.Nat.{ℕ, _+_, _-_, _*_, _^_, _<_, _≤_}
 use native.Mathlib.Numerals.{add-one}
 use native.Mathlib.Omega.{arith}
-use borrow.Author.Tests.{lt-ltb, le-ltb, le-leb, lt-leb, eq-eqb, ne-eqb}
+use borrow.Author.Tests.{lt-ltb, le-ltb, le-leb, lt-leb, ne-eqb}
 use lib.ListN.{length, getD, drop, drop-of-length-le}
 use lib.Seq.{drop-cons}
 use Rattle.text.specs.declared.number.Number.{Number}

@@ -1,8 +1,7 @@
 -- Runs of stores, one after another.
-use mathlib.Core.Path.{_≡_, refl, sym, ap, _∙_}
+use mathlib.Core.Path.{_≡_, refl, ap, _∙_}
 use mathlib.Core.List.{List, [], _∷_, _++_}
 use Prim.Native.Nat.{ℕ, suc, _+_, _-_, _/_, _%_, _<_, _≤_}
-use native.Mathlib.Numerals.{add-one}
 use native.Mathlib.Nat.{add-suc, suc-add, add-zero}
 use native.Mathlib.Omega.{arith}
 use lib.ListN.{length, set}

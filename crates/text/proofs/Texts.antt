@@ -11,7 +11,7 @@ use lib.ListN.{length, length-set, getD, drop, set, replicate}
 use lib.Seq.{drop-cons, getD-set-same, getD-set-other}
 use Rattle.text.specs.Text.{decimal, fill}
 use Rattle.text.specs.Reading.{andThen, readNumber, readByte, readFrom}
-use Rattle.text.proofs.Numbers.{Number, not-found, same-found, number-sound}
+use Rattle.text.proofs.Numbers.{Split, not-found, same-found, number-sound}
 use Rattle.text.proofs.Fills.{fill-other, fill-number}
 
 -- numbers read from the k-th on
@@ -34,7 +34,7 @@ set-small (x ∷ ns) (suc k) n h b zero = b zero
 set-small (x ∷ ns) (suc k) n h b (suc i) = set-small ns k n h (λ j. b (suc j)) i
 
 module _ {k : ℕ} {ns f ns′ rest : List ℕ} (size : length ns ≡ 5) where
-  number-found : {s : List ℕ} {n : ℕ} {r : List ℕ} → Number [] s n r → k < 5 → Found (suc k) (set ns k n) f r ns′ rest → Found k ns (48 ∷ f) s ns′ rest
+  number-found : {s : List ℕ} {n : ℕ} {r : List ℕ} → Split [] s n r → k < 5 → Found (suc k) (set ns k n) f r ns′ rest → Found k ns (48 ∷ f) s ns′ rest
   number-found {s} {n} {r} m h t =
       let here : getD ns′ k 0 ≡ n = t .kept k (omega arith) ∙ getD-set-same ns k n 0 (omega arith) in
       record {

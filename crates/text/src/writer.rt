@@ -1,8 +1,8 @@
 // Writing by a format.
 ghost use mathlib.Core.Path.{_≡_};
-ghost use Prim.Native.Nat.{_+_, _≤_, _<_};
+ghost use Prim.Native.Nat.{_+_, _≤_};
 ghost use lib.ListN.{length};
-ghost use Rattle.text.specs.Text.{decimal, fill};
+ghost use Rattle.text.specs.Text.{decimal};
 ghost use Rattle.text.specs.Writing.{Writes, WritesNumber, Spells};
 
 // How many digits a number has.

@@ -1,8 +1,6 @@
 -- What the rest of the format reads in the rest of the line, with the numbers so far, is what the whole reads.
 use mathlib.Core.Logic.{⊎-elim}
-use mathlib.Core.Bool.{not}
 use Prim.Native.Nat.{_-_}
-use native.Mathlib.Omega.{arith}
 use borrow.Author.Needs.{needs}
 use borrow.Author.Tests.{not-true, not-false}
 use lib.ListN.{length}

@@ -1,5 +1,4 @@
 -- The last digits, as many as the number has, are all of it.
-use mathlib.Core.Path.{_≡_, refl, sym, ap, _∙_}
 use native.Mathlib.Omega.{arith}
 use borrow.Author.Needs.{needs}
 use Rattle.text.proofs.Stores.{writes-number, no-room}
