@@ -147,7 +147,7 @@ pub record Safe (ws out ws′ out′ : List ℕ) (r : Stepped) : Type 0 where
 pub record Steps (ws : List ℕ) (s : code.Session) (line out ws′ out′ : List ℕ) (r : Stepped) : Type 0 where
   pub safe : Safe ws out ws′ out′ r
   pub short : length out < room → (r .session ≡ s) × (r .written ≡ 0) × (ws′ ≡ ws) × (out′ ≡ out)
-  pub follows : room ≤ length out → {st : State} → Stands ws s st → {f : Form} → Reads line f → Follows out (step (length ws) st f) ws′ out′ r
+  pub follows : room ≤ length out → (st : State) → Stands ws s st → (f : Form) → Reads line f → Follows out (step (length ws) st f) ws′ out′ r
 
 -- ---- its parts, with room for an answer
 -- a step from no book
@@ -163,7 +163,7 @@ pub record Refuses (out : List ℕ) (why : Refusal) (out′ : List ℕ) (r : Ste
 -- a step from a book
 pub record Continues (ws : List ℕ) (b : Expiring) (f : Form) (out ws′ out′ : List ℕ) (r : Stepped) : Type 0 where
   pub safe : Safe ws out ws′ out′ r
-  pub follows : {p : Book} → IsBook ws b → modelOf ws b (p .replaced) (p .removed) ≡ p → Follows out (step (length ws) (running p (heapOf ws b)) f) ws′ out′ r
+  pub follows : (p : Book) → IsBook ws b → modelOf ws b (p .replaced) (p .removed) ≡ p → Follows out (step (length ws) (running p (heapOf ws b)) f) ws′ out′ r
 
 -- a book's answer
 pub record Tells (ws : List ℕ) (b : Expiring) (a : Answer) (d : ℕ) (out out′ : List ℕ) (r : Stepped) : Type 0 where

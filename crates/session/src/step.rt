@@ -2,6 +2,8 @@
 ghost use mathlib.Core.Path.{_≡_};
 ghost use Prim.Native.Nat.{_≤_};
 ghost use lib.ListN.{length};
+ghost use Rattle.time.specs.declared.refusal.Refusal.the-variants.{MalformedLine};
+ghost use Rattle.expiring.specs.declared.answers.Answer.the-variants as answers;
 ghost use Rattle.session.specs.Session.{waiting, step, opening, room, Steps, Begins, Refuses, Continues, Tells, numberIn};
 use crate::answer;
 use crate::answer::Counts;
@@ -126,8 +128,17 @@ fn next(book: Expiring, words: &mut [u64], form: Form, out: &mut [u8]) -> Steppe
             let answer = reply.answer;
             told(book, words, answer, reply.discarded as u64, out)
         }
-        _ => told(book, words, Answer::Refused(Refusal::MalformedLine), 0, out),
+        Form::Book(_, _, _) => malformed(book, words, out),
+        Form::BookWithTtl(_, _, _, _, _) => malformed(book, words, out),
+        Form::Nothing => malformed(book, words, out),
     }
+}
+
+fn malformed(book: Expiring, words: &[u64], out: &mut [u8]) -> Stepped
+    requires { ⌜ room ≤ length (now out) ⌝ }
+    ensures { λ r. ⌜ Tells (now (words .entry)) book (answers.Refused MalformedLine) 0 (now (out .entry)) (now (out .exit)) r ⌝ }
+{
+    told(book, words, Answer::Refused(Refusal::MalformedLine), 0, out)
 }
 
 // A book's answer, with the counts as they stand.
