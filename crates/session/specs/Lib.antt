@@ -2,3 +2,4 @@ pub mod Forms
 pub mod Reading
 pub mod Answers
 pub mod Session
+pub mod Lines

@@ -1,3 +1,5 @@
+use mathlib.Core.Path.{refl, sym}
+use Rattle.session.proofs.Stepping.{refuse-begins}
 use borrow.Author.Needs.{needs}
 use Rattle.session.proofs.step.first.Statement.{statement}
 use Rattle.session.proofs.step.first.Tie as tie
@@ -17,11 +19,11 @@ first-spec =
     (λ c κs. search needs)
     (λ c. search needs)
     (λ c. search needs)
-    (λ c. ?returns)
+    (λ c. rw (c .before .before .before .before .before .before .before .before .form .given .1) (c .before .before .before .before .«open» .ensures))
     (λ c. search needs)
     (λ c. search needs)
-    (λ c. ?returns-2)
+    (λ c. rw (c .before .before .before .before .before .before .before .before .before .form2 .given .1, sym (c .before .before .before .before .before .before .before .duration-of .ensures)) (c .before .before .before .before .open2 .ensures))
     (λ c. search needs)
-    (λ c. ?returns-3)
+    (λ c. refuse-begins (c .before .before .before .before .before .before .before .before .pre) (c .before .before .refused-first .ensures) (rw (c .before .before .before .before .enum-told .given .1) refl) refl)
     (λ c. search needs)
-    (λ c. ?returns-4))
+    (λ c. refuse-begins (c .before .before .before .before .before .before .before .before .pre) (c .before .before .refused-first2 .ensures) (rw (c .before .before .before .before .enum-told2 .given .1) refl) refl))
