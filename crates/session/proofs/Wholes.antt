@@ -78,5 +78,5 @@ no-letter x t s h =
       ne-eqb x 100 (h .0 .0 .0 .1),
       ne-eqb x 104 (h .0 .0 .1),
       ne-eqb x 108 (h .0 .1),
-      ne-eqb x 99 (h .1)
+      ne-eqb x 99 (h .1),
     )
