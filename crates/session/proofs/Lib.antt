@@ -1,3 +1,6 @@
+pub mod Wholes
+pub mod Formats
+pub mod Texts
 pub mod Printing
 pub mod Stepping
 pub mod Blocks

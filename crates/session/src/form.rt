@@ -51,13 +51,9 @@ pub fn parse(line: &[u8]) -> Form
 fn whole(line: &[u8], at: usize, format: &[u8]) -> Fields
     ensures { λ r. ⌜ ReadsWhole (now (line .entry)) at (now (format .entry)) r ⌝ }
 {
-    let fields = text::read(line, at, format);
+    let mut fields = text::read(line, at, format);
     if fields.end < line.len() {
-        return Fields {
-            is_match: false,
-            end: fields.end,
-            numbers: fields.numbers,
-        };
+        fields.is_match = false;
     }
     fields
 }

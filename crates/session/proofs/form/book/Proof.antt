@@ -1,0 +1,26 @@
+use borrow.Author.Needs.{needs}
+use Rattle.session.specs.Reading.{bookIn}
+use Rattle.session.proofs.Wholes.{fits, unfit}
+use Rattle.session.proofs.form.book.Statement.{statement}
+use Rattle.session.proofs.form.book.Tie as tie
+
+pub book-spec : {M : Type 1} → statement M
+unfolding bookIn
+book-spec =
+    tie.close
+    (tie.spec
+    (λ c. search needs)
+    (λ c κs. search needs)
+    (λ c. search needs)
+    (λ c. search needs)
+    (λ c. search needs)
+    (λ c. simp (fits (c .before .before .whole .ensures) (c .before .if1 .taken)))
+    (λ c. search needs)
+    (λ c κs. search needs)
+    (λ c. search needs)
+    (λ c. search needs)
+    (λ c. search needs)
+    (λ c. search needs)
+    (λ c. search needs)
+    (λ c. simp (unfit (c .before .before .before .before .before .whole .ensures) (c .before .before .before .before .if1 .left), fits (c .before .before .whole2 .ensures) (c .before .if2 .taken)))
+    (λ c. simp (unfit (c .before .before .before .before .whole .ensures) (c .before .before .before .if1 .left), unfit (c .before .whole2 .ensures) (c .if2 .left))))

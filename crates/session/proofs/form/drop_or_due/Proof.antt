@@ -1,0 +1,19 @@
+use borrow.Author.Needs.{needs}
+use Rattle.session.specs.Reading.{dropIn}
+use Rattle.session.proofs.Wholes.{fits, unfit}
+use Rattle.session.proofs.form.drop_or_due.Statement.{statement}
+use Rattle.session.proofs.form.drop_or_due.Tie as tie
+
+pub drop-or-due-spec : {M : Type 1} → statement M
+unfolding dropIn
+drop-or-due-spec =
+    tie.close
+    (tie.spec
+    (λ c. search needs)
+    (λ c κs. search needs)
+    (λ c. search needs)
+    (λ c. simp (fits (c .before .before .whole .ensures) (c .before .if1 .taken)))
+    (λ c. search needs)
+    (λ c κs. search needs)
+    (λ c. simp (unfit (c .before .before .before .before .whole .ensures) (c .before .before .before .if1 .left), fits (c .before .whole2 .ensures) (c .if2 .taken)))
+    (λ c. simp (unfit (c .before .before .before .before .whole .ensures) (c .before .before .before .if1 .left), unfit (c .before .whole2 .ensures) (c .if2 .left))))

@@ -1,0 +1,31 @@
+use borrow.Author.Needs.{needs}
+use Rattle.session.specs.Reading.{putIn}
+use Rattle.session.proofs.Wholes.{fits, unfit}
+use Rattle.session.proofs.form.put_peek_or_purge.Statement.{statement}
+use Rattle.session.proofs.form.put_peek_or_purge.Tie as tie
+
+pub put-peek-or-purge-spec : {M : Type 1} → statement M
+unfolding putIn
+put-peek-or-purge-spec =
+    tie.close
+    (tie.spec
+    (λ c. search needs)
+    (λ c κs. search needs)
+    (λ c. search needs)
+    (λ c. search needs)
+    (λ c. search needs)
+    (λ c. search needs)
+    (λ c. simp (fits (c .before .before .whole .ensures) (c .before .if1 .taken)))
+    (λ c. search needs)
+    (λ c κs. search needs)
+    (λ c. search needs)
+    (λ c. search needs)
+    (λ c. simp (unfit (c .before .before .before .before .before .whole .ensures) (c .before .before .before .before .if1 .left), fits (c .before .before .whole2 .ensures) (c .before .if2 .taken)))
+    (λ c. search needs)
+    (λ c κs. search needs)
+    (λ c. search needs)
+    (λ c. simp (unfit (c .before .before .before .before .before .before .before .before .whole .ensures) (c .before .before .before .before .before .before .before .if1 .left), unfit (c .before .before .before .before .before .whole2 .ensures) (c .before .before .before .before .if2 .left), fits (c .before .before .whole3 .ensures) (c .before .if3 .taken)))
+    (λ c. search needs)
+    (λ c κs. search needs)
+    (λ c. simp (unfit (c .before .before .before .before .before .before .before .before .before .before .whole .ensures) (c .before .before .before .before .before .before .before .before .before .if1 .left), unfit (c .before .before .before .before .before .before .before .whole2 .ensures) (c .before .before .before .before .before .before .if2 .left), unfit (c .before .before .before .before .whole3 .ensures) (c .before .before .before .if3 .left), fits (c .before .whole4 .ensures) (c .if4 .taken)))
+    (λ c. simp (unfit (c .before .before .before .before .before .before .before .before .before .before .whole .ensures) (c .before .before .before .before .before .before .before .before .before .if1 .left), unfit (c .before .before .before .before .before .before .before .whole2 .ensures) (c .before .before .before .before .before .before .if2 .left), unfit (c .before .before .before .before .whole3 .ensures) (c .before .before .before .if3 .left), unfit (c .before .whole4 .ensures) (c .if4 .left))))
