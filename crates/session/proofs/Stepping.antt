@@ -32,8 +32,10 @@ use Rattle.session.specs.declared.form.Form.the-variants as form
 use Rattle.session.specs.declared.step.Session as code
 use Rattle.session.specs.declared.step.Session.the-variants as session
 use Rattle.session.specs.declared.step.Stepped.{Stepped}
+use Rattle.session.specs.Forms.{Reads}
 use Rattle.session.specs.Answers.{lineOf}
-use Rattle.session.specs.Session.{State, running, ended, Step, counts, refusedFirst, openedOf, opening, calling, malformed, step, callOf, Stands, opened, over, Written, Follows, room, Safe, Begins, Refuses, Continues, Tells}
+use Rattle.session.specs.Session.{State, waiting, running, ended, Step, counts, refusedFirst, openedOf, opening, calling, malformed, step, callOf, Stands, unopened, opened, over, Written, Follows, room, Safe, Begins, Refuses, Continues, Tells, Steps}
+use Rattle.session.proofs.Texts.{reads-once}
 use Rattle.session.proofs.Printing.{line-size}
 
 -- ---- a first line
@@ -109,3 +111,42 @@ module _ {ws out out′ : List ℕ} {b : Expiring} {q : Stepped} (k : Tells ws b
 
   pub malformed-continues : {f : Form} → ((p : Book) → step (length ws) (running p (heapOf ws b)) f ≡ malformed p (heapOf ws b)) → Continues ws b f out ws out′ q
   malformed-continues e = record { safe = k .safe; follows = λ p o m. rw (e p) (malformed-follows p o m) }
+
+-- ---- any line
+pub step-short : {ws out line : List ℕ} (s : code.Session) → length out < room → Steps ws s line out ws out (record { session = s; written = 0 })
+step-short s h = record {
+  safe = record { words = refl; lent = refl; within = omega arith };
+  short = λ _. (refl, refl, refl, refl);
+  follows = λ e _ _ _ _. absurd (omega (arith, e, h));
+}
+
+is-waiting : {ws : List ℕ} {st : State} → Stands ws session.Waiting st → st ≡ waiting
+is-waiting unopened = refl
+
+from-book : {ws out ws′ out′ : List ℕ} {r : Stepped} {f : Form} {b : Expiring} {st : State} → Continues ws b f out ws′ out′ r → Stands ws (session.Open b) st → Follows out (step (length ws) st f) ws′ out′ r
+from-book k (opened o {p} m) = k .follows p o m
+
+from-end : {ws out : List ℕ} (size : ℕ) (f : Form) {st : State} → Stands ws session.Ended st → Follows out (step size st f) ws out (record { session = session.Ended; written = 0 })
+from-end size f over = record { state = over; written = record { size = refl; bytes = refl } }
+
+module _ {ws out ws′ out′ line : List ℕ} {s : code.Session} {r : Stepped} (enough : room ≤ length out) where
+  -- where there is room, it is enough to follow the form that was read
+  stepped : {f : Form} → Reads line f → Safe ws out ws′ out′ r → ((st : State) → Stands ws s st → Follows out (step (length ws) st f) ws′ out′ r) → Steps ws s line out ws′ out′ r
+  stepped {f} read safe follow = record {
+    safe = safe;
+    short = λ h. absurd (omega (arith, enough, h));
+    follows = λ _ st a g other. subst (λ (z : Form). Follows out (step (length ws) st z) ws′ out′ r) (reads-once read other) (follow st a);
+  }
+
+  pub step-first : {f : Form} → Reads line f → s ≡ session.Waiting → Begins ws out (step (length ws) waiting f) ws′ out′ r → Steps ws s line out ws′ out′ r
+  step-first {f} read e k = stepped read (k .safe) (λ st a. subst (λ (z : State). Follows out (step (length ws) z f) ws′ out′ r) (sym (is-waiting (subst (λ (z : code.Session). Stands ws z st) e a))) (k .follows))
+
+  pub step-next : {f : Form} {b : Expiring} → Reads line f → s ≡ session.Open b → Continues ws b f out ws′ out′ r → Steps ws s line out ws′ out′ r
+  step-next read e k = stepped read (k .safe) (λ st a. from-book k (subst (λ (z : code.Session). Stands ws z st) e a))
+
+pub step-ended : {ws out line : List ℕ} {s : code.Session} → room ≤ length out → s ≡ session.Ended → Steps ws s line out ws out (record { session = session.Ended; written = 0 })
+step-ended {ws} enough e = record {
+  safe = record { words = refl; lent = refl; within = omega arith };
+  short = λ h. absurd (omega (arith, enough, h));
+  follows = λ _ st a f _. from-end (length ws) f (subst (λ (z : code.Session). Stands ws z st) e a);
+}

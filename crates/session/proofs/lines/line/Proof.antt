@@ -1,0 +1,20 @@
+use borrow.Author.Needs.{needs}
+use Rattle.session.proofs.lines.line.Statement.{statement}
+use Rattle.session.proofs.lines.line.Tie as tie
+
+pub line-spec : {M : Type 1} → statement M
+line-spec =
+    tie.close
+    (tie.spec
+    (λ c. search needs)
+    (λ c. search needs)
+    (λ c. search needs)
+    (λ c. search needs)
+    (λ c. search needs)
+    (λ c. search needs)
+    (λ c κs. search needs)
+    (λ c. search needs)
+    (λ c. search needs)
+    (λ c. search needs)
+    (λ c. search needs)
+    (λ c. ?returns))
