@@ -37,14 +37,18 @@ pub record Follows (ws : List ℕ) (s : Session) (out : List ℕ) (fs : List For
   pub state : (st : State) → Stands ws s st → Stands ws′ (r .session) (stateAfter (length ws) st fs)
   pub text : (st : State) → Stands ws s st → Written out (printed (length ws) st fs) out′ (r .written)
 
--- `run`: it reads whole lines, as many as there are or as there is room for, and answers as the model does
-pub record Runs (ws : List ℕ) (s : Session) (bytes out ws′ out′ : List ℕ) (r : Ran) : Type 0 where
+-- the lines read so far, and the answers to them
+pub record Reached (ws : List ℕ) (s : Session) (bytes out ws′ out′ : List ℕ) (r : Ran) : Type 0 where
   pub safe : Safe ws bytes out ws′ out′ r
   pub lines : List (List ℕ)
   pub forms : List Form
   pub read : take (r .read) bytes ≡ joined lines
   pub reads : ReadAs lines forms
   pub follows : Follows ws s out forms ws′ out′ r
+
+-- `run`: whole lines, as many as there are or as there is room for
+pub record Runs (ws : List ℕ) (s : Session) (bytes out ws′ out′ : List ℕ) (r : Ran) : Type 0 where
+  pub reached : Reached ws s bytes out ws′ out′ r
   pub rest : Unbroken (drop (r .read) bytes) ⊎ (length out < r .written + room)
 
 -- `newline`: the first newline from a place on, or else the end

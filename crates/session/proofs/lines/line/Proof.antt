@@ -1,3 +1,4 @@
+use Rattle.session.proofs.Blocks.{reads-line}
 use borrow.Author.Needs.{needs}
 use Rattle.session.proofs.lines.line.Statement.{statement}
 use Rattle.session.proofs.lines.line.Tie as tie
@@ -17,4 +18,4 @@ line-spec =
     (λ c. search needs)
     (λ c. search needs)
     (λ c. search needs)
-    (λ c. ?returns))
+    (λ c. reads-line _ _ _ (c .before .before .before .before .before .before .before .before .before .before .before .before .pre .0 .1) (c .before .before .before .before .before .before .before .before .before .before .before .before .pre .1) (c .before .before .before .before .before .before .before .before .before .before .before .before .pre .0 .0) (c .before .before .before .before .before .step .ensures)))

@@ -25,5 +25,5 @@ newline-spec =
     (λ c. let l = c .before .before .before .loop in record { reached = l .inv .0; within = l .inv .1; unbroken = l .inv .2; newline = λ _. c .if1 .taken })
     (λ c. search needs)
     (λ c. search needs)
-    (λ c. let l = c .before .before .before .loop in (omega (arith, l .inv .0), omega (arith, c .before .before .loop-test .taken), unbroken-on _ _ _ (l .inv .2) (c .if1 .left)))
+    (λ c. let l = c .before .before .before .loop in (omega (arith, l .inv .0), omega (arith, c .before .before .loop-test .taken), unbroken-on (c .before .before .before .before .args .bytes .now) _ _ (l .inv .2) (c .if1 .left)))
     (λ c. let l = c .before .loop in record { reached = l .inv .0; within = l .inv .1; unbroken = l .inv .2; newline = λ h. absurd (omega (arith, c .loop-test .left, h)) }))

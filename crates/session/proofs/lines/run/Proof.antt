@@ -1,71 +1,20 @@
+-- The lines so far, and the end of the next.
+use mathlib.Core.Path.{sym}
+use mathlib.Core.Logic.{inl, inr}
+use Prim.Native.Nat.{_-_}
+use native.Mathlib.Omega.{arith}
+use lib.ListN.{length}
+use borrow.Author.Needs.{needs}
+use Rattle.session.specs.Lines.{Reached, FirstNewline}
+use Rattle.session.proofs.Blocks.{unbroken-rest, reached-on, reached-none}
 use Rattle.session.proofs.lines.run.Statement.{statement}
 use Rattle.session.proofs.lines.run.Tie as tie
-use Rattle.session.proofs.lines.run.Reads as reads
-use Rattle.session.proofs.lines.run.Lts as lts
-use Rattle.session.proofs.lines.line.Reads as line-reads
-use Rattle.session.proofs.lines.newline.Reads as newline-reads
 
 abbrev Inv-loop : tie.InvT-loop
-Inv-loop words₀ bytes out₀ ran₀ end₀ words out ran end = ?
+Inv-loop words₀ bytes out₀ ran₀ end₀ words out ran end = Reached words₀ (ran₀ .session) bytes out₀ words out ran × FirstNewline bytes (ran .read) end
 
 abbrev μ-loop : tie.MeasureT-loop
-μ-loop words₀ bytes out₀ ran₀ end₀ words out ran end = ?
-
--- src/lines.rt:25:9
-newline-requires : tie.Need-newline-requires Inv-loop μ-loop
-newline-requires c κs = ?
-
--- src/lines.rt:26:5
-loop-holds : tie.Need-loop-holds Inv-loop μ-loop
-loop-holds c = ?
-
--- src/lines.rt:27:12
-sub-if1 : tie.Need-sub-if1 Inv-loop μ-loop
-sub-if1 c = ?
-
--- src/lines.rt:28:13
-same-length : tie.Need-same-length Inv-loop μ-loop
-same-length c = ?
-
--- src/lines.rt:28:13
-same-length-2 : tie.Need-same-length-2 Inv-loop μ-loop
-same-length-2 c = ?
-
--- src/lines.rt:28:13
-returns : tie.Need-returns Inv-loop μ-loop
-returns c = ?
-
--- src/lines.rt:30:9
-line-requires : tie.Need-line-requires Inv-loop μ-loop
-line-requires c κs = ?
-
--- src/lines.rt:31:30
-add-newline : tie.Need-add-newline Inv-loop μ-loop
-add-newline c = ?
-
--- src/lines.rt:31:9
-newline-requires-2 : tie.Need-newline-requires-2 Inv-loop μ-loop
-newline-requires-2 c κs = ?
-
--- src/lines.rt:26:5
-loop-less : tie.Need-loop-less Inv-loop μ-loop
-loop-less c = ?
-
--- src/lines.rt:26:5
-loop-again : tie.Need-loop-again Inv-loop μ-loop
-loop-again c = ?
-
--- src/lines.rt:17:1
-same-length-3 : tie.Need-same-length-3 Inv-loop μ-loop
-same-length-3 c = ?
-
--- src/lines.rt:17:1
-same-length-4 : tie.Need-same-length-4 Inv-loop μ-loop
-same-length-4 c = ?
-
--- src/lines.rt:17:1
-returns-2 : tie.Need-returns-2 Inv-loop μ-loop
-returns-2 c = ?
+μ-loop words₀ bytes out₀ ran₀ end₀ words out ran end = length bytes - end
 
 pub run-spec : {M : Type 1} → statement M
 run-spec =
@@ -73,17 +22,17 @@ run-spec =
     (tie.spec
     Inv-loop
     μ-loop
-    newline-requires
-    loop-holds
-    sub-if1
-    same-length
-    same-length-2
-    returns
-    line-requires
-    add-newline
-    newline-requires-2
-    loop-less
-    loop-again
-    same-length-3
-    same-length-4
-    returns-2)
+    (λ c κs. omega arith)
+    (λ c. (reached-none _ _ _ _, c .newline .ensures))
+    (λ c. let k = c .before .before .loop .inv .0 .safe in omega (arith, k .written, k .lent))
+    (λ c. c .before .before .before .loop .inv .0 .safe .words)
+    (λ c. c .before .before .before .loop .inv .0 .safe .lent)
+    (λ c. let l = c .before .before .before .loop .inv in record { reached = l .0; rest = inr (omega (arith, c .if1 .taken, l .0 .safe .lent)) })
+    (λ c κs. let l = c .before .before .before .before .before .loop .inv in ((l .1 .reached, c .before .before .before .before .loop-test .taken), omega (arith, c .before .before .if1 .left)))
+    (λ c. omega (arith, c .before .before .before .before .before .before .before .before .before .loop-test .taken, c .before .before .before .before .before .before .before .before .before .before .before .before .before .before .before .good))
+    (λ c κs. omega (arith, c .before .before .before .before .before .before .before .before .before .loop-test .taken))
+    (λ c. omega (arith, c .newline2 .ensures .reached, c .before .before .before .before .before .before .before .before .before .before .loop-test .taken))
+    (λ c. let l = c .before .before .before .before .before .before .before .before .before .before .before .loop .inv in let k = c .before .before .before .before .before .line .ensures in (reached-on (l .0) (l .1) (c .before .before .before .before .before .before .before .before .before .before .loop-test .taken) k, rw (k .read) (c .newline2 .ensures)))
+    (λ c. c .before .loop .inv .0 .safe .words)
+    (λ c. c .before .loop .inv .0 .safe .lent)
+    (λ c. let l = c .before .loop .inv in record { reached = l .0; rest = inl (unbroken-rest _ _ _ (l .1) (c .loop-test .left)) }))
