@@ -1,72 +1,21 @@
 // Document 01, "The session program": reads standard input to its end, and answers each line on standard output.
 //
-// Each block of input is answered, and the answers written, before the next is read, so that whoever waits for an answer at the
-// other end of a pipe gets it.
+// The answers to a block of input are written before the next block is read, so that whoever waits for an answer at the other
+// end of a pipe gets it.
+ghost use Prim.Native.Nat.{_+_, _≤_};
+ghost use lib.ListN.{length};
 use libc::STDIN_FILENO;
 use libc::STDOUT_FILENO;
 use session::Session;
 
-// A session, and how many bytes of a line without its end are at the start of the buffer.
+// A session, and how many bytes at the start of the buffer are a line whose end has not been read.
 struct Reader {
     session: Session,
     kept: usize,
     is_done: bool,
 }
 
-// A line of more than 200 bytes is no form, so that 201 of its bytes are enough.
-fn kept_of(rest: usize) -> usize {
-    if rest < 201 { rest } else { 201 }
-}
-
-fn main() {
-    let mut words = [0u64; 5248];
-    let mut bytes = [0u8; 65536];
-    let mut out = [0u8; 65536];
-    let mut reader = Reader {
-        session: Session::Waiting,
-        kept: 0,
-        is_done: false,
-    };
-    let mut left = u64::MAX;
-    while left > 0 {
-        reader = read_block(reader, &mut words, &mut bytes, &mut out);
-        if reader.is_done {
-            return;
-        }
-        left -= 1;
-    }
-}
-
-// Reads a block behind what is kept, and answers its lines; at the end of the input, answers a last line without a newline.
-fn read_block(reader: Reader, words: &mut [u64], bytes: &mut [u8], out: &mut [u8]) -> Reader {
-    let session = reader.session;
-    let kept = reader.kept;
-    if bytes.len() < kept {
-        return Reader {
-            session,
-            kept,
-            is_done: true,
-        };
-    }
-    let got = libc::read(STDIN_FILENO, &mut bytes[kept..]);
-    let n = io::count(got, &bytes[kept..]);
-    if n == 0 {
-        return last_line(session, kept, words, bytes, out);
-    }
-    answer_lines(session, words, bytes, kept + n, out)
-}
-
-fn last_line(
-    session: Session,
-    kept: usize,
-    words: &mut [u64],
-    bytes: &[u8],
-    out: &mut [u8],
-) -> Reader {
-    if 0 < kept {
-        let stepped = session.step(words, &bytes[..kept], out);
-        io::write_all(STDOUT_FILENO, &out[..stepped.written]);
-    }
+fn done() -> Reader {
     Reader {
         session: Session::Ended,
         kept: 0,
@@ -74,46 +23,123 @@ fn last_line(
     }
 }
 
-// Answers the lines of the first bytes, and moves what is left of them to the start.
+fn is_ended(session: Session) -> bool {
+    match session {
+        Session::Waiting => false,
+        Session::Open(_) => false,
+        Session::Ended => true,
+    }
+}
+
+// Every loop has to end, and nothing says that an input does: the blocks are counted down from a number that no run uses up.
+// There are words for the largest book that a session opens, with 128 keys and 128 deadlines.
+fn main() {
+    let mut words = [0u64; 5248];
+    let mut bytes = io::large_buffer();
+    let mut out = io::large_buffer();
+    let mut reader = Reader {
+        session: Session::Waiting,
+        kept: 0,
+        is_done: false,
+    };
+    let mut left = u64::MAX;
+    while left > 0 {
+        reader = answer_block(reader, &mut words, &mut bytes, &mut out);
+        if reader.is_done {
+            return;
+        }
+        left -= 1;
+    }
+}
+
+// Reads a block behind what is kept, and answers its lines; at the end of the input, a last line without its newline.
+fn answer_block(reader: Reader, words: &mut [u64], bytes: &mut [u8], out: &mut [u8]) -> Reader {
+    let session = reader.session;
+    let kept = reader.kept;
+    if bytes.len() <= kept {
+        return done();
+    }
+    let n = read_behind(bytes, kept);
+    if n == 0 {
+        return answer_last(session, words, bytes, kept, out);
+    }
+    answer_lines(session, words, bytes, kept + n, out)
+}
+
+fn read_behind(bytes: &mut [u8], kept: usize) -> usize
+    requires { ⌜ kept ≤ length (now bytes) ⌝ }
+    ensures { λ r. ⌜ kept + r ≤ length (now (bytes .entry)) ⌝ }
+{
+    let rest = &mut bytes[kept..];
+    let got = libc::read(STDIN_FILENO, rest);
+    io::count(got, rest)
+}
+
+fn answer_last(
+    session: Session,
+    words: &mut [u64],
+    bytes: &[u8],
+    kept: usize,
+    out: &mut [u8],
+) -> Reader
+    requires { ⌜ kept ≤ length (now bytes) ⌝ }
+{
+    if 0 < kept {
+        let stepped = session.step(words, &bytes[..kept], out);
+        io::write_all(STDOUT_FILENO, &out[..stepped.written]);
+    }
+    done()
+}
+
+// Answers the lines of the first bytes, as many of them as there are, and keeps what is left.
 fn answer_lines(
     session: Session,
     words: &mut [u64],
     bytes: &mut [u8],
     size: usize,
     out: &mut [u8],
-) -> Reader {
+) -> Reader
+    requires { ⌜ size ≤ length (now bytes) ⌝ }
+{
     let mut session = session;
     let mut start = 0;
-    let mut turns = size;
-    while turns > 0 {
+    while start < size {
         let ran = session::run(session, words, &bytes[start..size], out);
         session = ran.session;
         if !io::write_all(STDOUT_FILENO, &out[..ran.written]) {
-            return Reader {
-                session: Session::Ended,
-                kept: 0,
-                is_done: true,
-            };
+            return done();
+        }
+        if ran.read == 0 {
+            return keep(session, bytes, start, size);
         }
         start += ran.read;
-        if ran.read == 0 {
-            turns = 1;
-        }
-        turns -= 1;
     }
-    let kept = kept_of(size - start);
-    move_to_front(bytes, start, kept);
     Reader {
         session,
-        kept,
-        is_done: false,
+        kept: 0,
+        is_done: is_ended(session),
     }
 }
 
-fn move_to_front(bytes: &mut [u8], start: usize, count: usize) {
+// Moves what is left of the bytes to the start. A line of more than 200 bytes is no form, so that 201 of its bytes are enough.
+fn keep(session: Session, bytes: &mut [u8], start: usize, size: usize) -> Reader
+    requires { ⌜ (start ≤ size) × (size ≤ length (now bytes)) ⌝ }
+{
+    let kept = kept_of(size - start);
     let mut i = 0;
-    while i < count {
+    while i < kept {
         bytes[i] = bytes[start + i];
         i += 1;
     }
+    Reader {
+        session,
+        kept,
+        is_done: is_ended(session),
+    }
+}
+
+fn kept_of(rest: usize) -> usize
+    ensures { λ r. ⌜ r ≤ rest ⌝ }
+{
+    if rest < 201 { rest } else { 201 }
 }
