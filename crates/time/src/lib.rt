@@ -12,6 +12,8 @@ mod tick;
 
 pub use clock::Advanced;
 pub use clock::MockClock;
+pub use clock::advance;
+pub use clock::set;
 pub use duration::Duration;
 pub use duration::Ticked;
 pub use duration::TtlTicks;
