@@ -63,7 +63,7 @@ use Rattle.time.proofs.clock.advance.Code as code
 abbrev stayed : Stays (f.ended .signature .params) (f.ended .kept)
 stayed = (stay-ref (0 ∷ []) tt (plain (λ _. T.the-row)), (stay-none (λ _. K.the-row) yes, tt))
 
--- the machine values of a clock, of a duration, of an outcome, and of the clock and the outcome that a step returns
+-- the machine values of a clock, of a duration and of an outcome
 abbrev clock-val : MockClock → Val
 clock-val = LL.val T.the-type T′.the-laws
 
@@ -72,9 +72,6 @@ delta-val = LL.val K.the-type K′.the-laws
 
 abbrev outcome-val : Outcome → Val
 outcome-val = EL.val O.the-type O′.the-laws
-
-abbrev step-val : Advanced → Val
-step-val = LL.val S.the-type S′.the-laws
 
 module _ {M : Type 1} (𝓤 : URA M) (H : Heap 𝓤) (A : Atoms 𝓤) (at-mem : Memory → SProp 𝓤) (run : Routine → Fun 𝓤) where
   -- the by-value step's contract, and what it ensures
