@@ -8,9 +8,11 @@
 //     set TICK
 //     advance SECS NANOS
 //
+// A clock's step is taken by value and by the lent form, and where they differ the answer says so.
 // A question is named by its first letter alone. Its line is written back with ` = ` and the answer; a line that starts
 // with `#` is written back as it is. Nothing here is part of what is proved of the cache: it is how a person, and the
 // recorded answers of the Rust, reach the crate.
+mod lent;
 mod line;
 mod print;
 

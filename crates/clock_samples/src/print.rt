@@ -1,4 +1,5 @@
 // The answer to a line's question, from the crate `time`, on standard output.
+use crate::lent;
 use crate::line::Line;
 use libc::STDOUT_FILENO;
 use time::Duration;
@@ -54,7 +55,7 @@ fn reply(letter: u8, n: [u64; 3], clock: MockClock) -> MockClock {
             clock
         }
         b'c' => shown(MockClock::with_tick(Tick(n[0]))),
-        b's' => shown(clock.set(Tick(n[0]))),
+        b's' => set(clock, Tick(n[0])),
         b'a' => advance(clock, duration(n[0], n[1])),
         _ => {
             io::write_all(STDOUT_FILENO, b"no question");
@@ -106,16 +107,45 @@ fn remaining(deadline: Tick, tick: Tick) {
     }
 }
 
+// A step is taken by value and by the lent form. The answer is the lent clock's; where the two differ, it says so.
+fn set(clock: MockClock, tick: Tick) -> MockClock {
+    let after = shown(lent::set(clock, tick));
+    compare(clock.set(tick), after);
+    after
+}
+
 fn advance(clock: MockClock, delta: Duration) -> MockClock {
-    let advanced = clock.advance(delta);
+    let advanced = lent::advance(clock, delta);
     let outcome = advanced.outcome;
     let after = advanced.clock;
+    let by_value = clock.advance(delta);
+    let expected = by_value.outcome;
     match outcome {
-        Outcome::Done => shown(after),
-        Outcome::Refused(why) => {
-            refused(why);
-            after
+        Outcome::Done => {
+            shown(after);
         }
+        Outcome::Refused(why) => refused(why),
+    }
+    compare(by_value.clock, after);
+    if refusal_number(expected) != refusal_number(outcome) {
+        io::write_all(STDOUT_FILENO, b", by value another outcome");
+    }
+    after
+}
+
+fn compare(by_value: MockClock, lent: MockClock) {
+    let tick = by_value.now().as_u64();
+    if tick != lent.now().as_u64() {
+        io::write_all(STDOUT_FILENO, b", by value ");
+        io::print_decimal(STDOUT_FILENO, tick);
+    }
+}
+
+// 0 where nothing was refused.
+fn refusal_number(outcome: Outcome) -> u64 {
+    match outcome {
+        Outcome::Done => 0,
+        Outcome::Refused(why) => why.number(),
     }
 }
 

@@ -62,3 +62,19 @@ impl MockClock {
         }
     }
 }
+
+// The owner's clock, lent to be set.
+pub fn set(clock: &mut MockClock, tick: Tick)
+    ensures { λ _. ⌜ now (clock .exit) ≡ clockAt (tick .0) ⌝ }
+{
+    *clock = clock.set(tick);
+}
+
+// The owner's clock, lent to be moved on. A refused step leaves it as it was.
+pub fn advance(clock: &mut MockClock, delta: Duration) -> Outcome
+    ensures { λ r. ⌜ record { clock = now (clock .exit); outcome = r } ≡ advanced (now (clock .entry)) delta ⌝ }
+{
+    let step = clock.advance(delta);
+    *clock = step.clock;
+    step.outcome
+}

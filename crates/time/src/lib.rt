@@ -1,4 +1,4 @@
-// The clock layer: durations, ticks, deadlines, a clock that its owner sets, and the refusals of every layer.
+// The clock layer: durations, ticks, deadlines, a clock that its owner moves or lends, and the refusals of every layer.
 //
 // A tick is one millisecond. A `Tick` is a point in time and a `TtlTicks` a length of it, two types, so that neither can
 // stand for the other. Every function takes any numbers, ends, and equals a definition of specs/.
@@ -12,6 +12,8 @@ mod tick;
 
 pub use clock::Advanced;
 pub use clock::MockClock;
+pub use clock::advance;
+pub use clock::set;
 pub use duration::Duration;
 pub use duration::Ticked;
 pub use duration::TtlTicks;
