@@ -1,0 +1,7 @@
+//! Document 01's session program over the Rust of docs/src, and what the proved program is held to by
+//! it: recorded sessions, and random ones run through both.
+
+pub mod book;
+pub mod form;
+mod print;
+pub mod session;
