@@ -2,6 +2,10 @@
 //! it: recorded sessions, and random ones run through both.
 
 pub mod book;
+pub mod damage;
 pub mod form;
+pub mod kinds;
 mod print;
+pub mod program;
+pub mod recorded;
 pub mod session;
