@@ -84,7 +84,12 @@ pub fn session(kind: Kind, number: u64, size: Size) -> Vec<u8> {
     } else {
         writer.line(shape.opening);
     }
-    let fewest = if kind == Kind::NoLastNewline { 0 } else { 4 };
+    let fewest = match kind {
+        Kind::NoLastNewline => 0,
+        // Enough for the numbers to run out.
+        Kind::LastNumbers => 16,
+        _ => 4,
+    };
     for turn in 0..fewest + writer.random.below(size.lines) {
         writer.any_line(turn);
     }
@@ -106,6 +111,8 @@ struct Shape {
     tick: u64,
     /// Lifetimes and steps of the clock are mostly below it, in ticks.
     span: u64,
+    /// Lifetimes and steps of the clock are mostly a multiple of it, so that deadlines are alike.
+    grain: u64,
     /// Of a hundred lines, those before which the clock goes back.
     back: u64,
     /// Of a hundred lifetimes, those at an edge and those that are none.
@@ -114,6 +121,8 @@ struct Shape {
     /// Of a hundred lines, those that are no form and those that are too long.
     damaged: u64,
     long: u64,
+    /// Of a call.
+    rolls: u64,
 }
 
 impl Shape {
@@ -129,11 +138,13 @@ impl Shape {
             keys: capacity + 1 + random.below(2),
             tick: pick(random, &[0, 0, 1000, 1000, 1 << 40]),
             span: pick(random, &[4, 20, 100, 2000]),
+            grain: 1,
             back: 2,
             edge_ttls: 4,
             bad_ttls: 1,
             damaged: 1,
             long: 0,
+            rolls: 100,
         };
         let opening = &mut shape.opening;
         match kind {
@@ -142,7 +153,13 @@ impl Shape {
                 opening.limit = 1 + random.below(opening.capacity - 1);
             }
             Kind::NoCapacity => opening.capacity = 0,
-            Kind::LastNumbers => opening.seq = u64::MAX - random.below(6),
+            // A `clear` keeps the next number, which only a later renumbering shows.
+            Kind::LastNumbers => {
+                opening.seq = u64::MAX - random.below(8);
+                shape.span = 3000;
+                shape.grain = 1000;
+                shape.rolls = 108;
+            }
             Kind::DefaultTtl => opening.default_ttl = Some(default_ttl(random, shape.span)),
             Kind::ClockBack => shape.back = 40,
             Kind::LongestTtls => {
@@ -239,7 +256,7 @@ impl Writer {
     fn any_line(&mut self, turn: u64) {
         self.turn_clock();
         let is_filling = turn < self.shape.keys && self.below(4) != 0;
-        let rolls = if is_filling { 36 } else { 100 };
+        let rolls = if is_filling { 36 } else { self.shape.rolls };
         let at = At(self.shape.tick, self.call(rolls));
         let Shape { damaged, long, .. } = self.shape;
         match self.below(100) {
@@ -264,10 +281,15 @@ impl Writer {
         self.bytes(&line);
     }
 
+    fn span(&mut self) -> u64 {
+        let Shape { span, grain, .. } = self.shape;
+        self.below(span) / grain * grain
+    }
+
     /// Mostly on; at times back, and to both ends.
     fn turn_clock(&mut self) {
-        let Shape { tick, span, .. } = self.shape;
-        let step = self.below(span);
+        let Shape { tick, grain, .. } = self.shape;
+        let step = self.span();
         self.shape.tick = if self.below(100) < self.shape.back {
             match self.below(8) {
                 0 => 0,
@@ -277,7 +299,7 @@ impl Writer {
         } else {
             match self.below(4) {
                 0 => tick.saturating_add(step),
-                1 => tick.saturating_add(1),
+                1 => tick.saturating_add(grain),
                 _ => tick,
             }
         };
@@ -313,11 +335,11 @@ impl Writer {
                 0 => pick_ttl(&mut self.random, &SHORTEST_TTLS),
                 _ => pick_ttl(&mut self.random, &LONGEST_TTLS),
             },
-            _ => Ttl::from_millis(self.below(self.shape.span)),
+            _ => Ttl::from_millis(self.span()),
         }
     }
 
-    /// With a hundred rolls of the dice any call, with fewer rather the first ones.
+    /// With a hundred rolls any call, with fewer the first ones only, with more the last one more often.
     fn call(&mut self, rolls: u64) -> Call {
         let key = self.key();
         match self.below(rolls) {
