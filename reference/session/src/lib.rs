@@ -3,6 +3,7 @@
 
 pub mod book;
 pub mod damage;
+pub mod day;
 pub mod form;
 pub mod kinds;
 mod print;
