@@ -95,13 +95,26 @@ pub fn session(kind: Kind, number: u64, size: Size) -> Vec<u8> {
     }
     let mut input = writer.input;
     match kind {
-        Kind::NoLastNewline => input.truncate(input.len() - 1),
+        // A blank last line without its newline would be none.
+        Kind::NoLastNewline => {
+            while input.ends_with(b"\n") {
+                input.pop();
+            }
+        }
         // From number to number a byte more, from the empty input on.
         Kind::CutShort => input.truncate(number as usize % (input.len() + 1)),
         _ => {}
     }
     input
 }
+
+/// From which rolls of the dice to which a call is drawn.
+type Rolls = (u64, u64);
+
+const ANY: Rolls = (0, 100);
+const INSERTS: Rolls = (0, 36);
+const INSERTS_AND_LOOKS: Rolls = (27, 62);
+const MORE_CLEARS: Rolls = (0, 108);
 
 #[derive(Clone, Copy)]
 struct Shape {
@@ -121,8 +134,7 @@ struct Shape {
     /// Of a hundred lines, those that are no form and those that are too long.
     damaged: u64,
     long: u64,
-    /// Of a call.
-    rolls: u64,
+    rolls: Rolls,
 }
 
 impl Shape {
@@ -144,7 +156,7 @@ impl Shape {
             bad_ttls: 1,
             damaged: 1,
             long: 0,
-            rolls: 100,
+            rolls: ANY,
         };
         let opening = &mut shape.opening;
         match kind {
@@ -158,7 +170,7 @@ impl Shape {
                 opening.seq = u64::MAX - random.below(8);
                 shape.span = 3000;
                 shape.grain = 1000;
-                shape.rolls = 108;
+                shape.rolls = MORE_CLEARS;
             }
             Kind::DefaultTtl => opening.default_ttl = Some(default_ttl(random, shape.span)),
             Kind::ClockBack => shape.back = 40,
@@ -182,6 +194,11 @@ impl Shape {
             Kind::NoLastNewline => {
                 shape.damaged = 15;
                 shape.long = 3;
+            }
+            // The order of recency shows in what is still there.
+            Kind::Churn if random.below(2) == 0 => {
+                opening.capacity = capacity.max(2);
+                shape.rolls = INSERTS_AND_LOOKS;
             }
             Kind::Churn | Kind::RefusedOpening | Kind::CutShort => {}
         }
@@ -256,7 +273,11 @@ impl Writer {
     fn any_line(&mut self, turn: u64) {
         self.turn_clock();
         let is_filling = turn < self.shape.keys && self.below(4) != 0;
-        let rolls = if is_filling { 36 } else { self.shape.rolls };
+        let rolls = if is_filling {
+            INSERTS
+        } else {
+            self.shape.rolls
+        };
         let at = At(self.shape.tick, self.call(rolls));
         let Shape { damaged, long, .. } = self.shape;
         match self.below(100) {
@@ -339,18 +360,17 @@ impl Writer {
         }
     }
 
-    /// With a hundred rolls any call, with fewer the first ones only, with more the last one more often.
-    fn call(&mut self, rolls: u64) -> Call {
+    fn call(&mut self, (first, end): Rolls) -> Call {
         let key = self.key();
-        match self.below(rolls) {
+        match first + self.below(end - first) {
             0..27 => Call::InsertWithTtl(key, self.value(), self.ttl()),
             27..36 => Call::Insert(key, self.value()),
-            36..47 => Call::Get(key),
-            47..51 => Call::Peek(key),
-            51..55 => Call::Contains(key),
-            55..64 => Call::Remove(key),
-            64..75 => Call::SetTtl(key, self.ttl()),
-            75..82 => Call::TtlStatus(key),
+            36..45 => Call::Get(key),
+            45..52 => Call::Peek(key),
+            52..57 => Call::Contains(key),
+            57..62 => Call::TtlStatus(key),
+            62..71 => Call::Remove(key),
+            71..82 => Call::SetTtl(key, self.ttl()),
             82..88 => Call::PurgeExpired,
             88..95 => Call::NextDeadline,
             95..99 => Call::LiveLen,
@@ -381,7 +401,7 @@ impl Writer {
                     pick(&mut self.random, &[(128, 128), (0, 1), (0, 128), (128, 1)]);
             }
             6 => {
-                let call = At(self.shape.tick, self.call(100));
+                let call = At(self.shape.tick, self.call(ANY));
                 return self.line(call);
             }
             _ => {
