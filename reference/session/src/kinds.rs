@@ -122,9 +122,9 @@ struct Shape {
     /// Keys are mostly below it.
     keys: u64,
     tick: u64,
-    /// Lifetimes and steps of the clock are mostly below it, in ticks.
+    /// Lifetimes are mostly below it, in ticks.
     span: u64,
-    /// Lifetimes and steps of the clock are mostly a multiple of it, so that deadlines are alike.
+    /// Lifetimes and steps of the clock are mostly a multiple of it, so that deadlines may be alike.
     grain: u64,
     /// Of a hundred lines, those before which the clock goes back.
     back: u64,
@@ -147,9 +147,9 @@ impl Shape {
                 seq: pick(random, &[0, 0, 1, 1 << 32, 1 << 63]),
                 default_ttl: None,
             },
-            keys: capacity + 1 + random.below(2),
+            keys: capacity + 1 + pick(random, &[0, 1, capacity / 2]),
             tick: pick(random, &[0, 0, 1000, 1000, 1 << 40]),
-            span: pick(random, &[4, 20, 100, 2000]),
+            span: pick(random, &[4, 20, 2000, 20 * capacity, 200 * capacity]),
             grain: 1,
             back: 2,
             edge_ttls: 4,
@@ -271,14 +271,14 @@ impl Writer {
 
     /// The first lines mostly fill the book.
     fn any_line(&mut self, turn: u64) {
-        self.turn_clock();
+        let tick = self.turn_clock();
         let is_filling = turn < self.shape.keys && self.below(4) != 0;
         let rolls = if is_filling {
             INSERTS
         } else {
             self.shape.rolls
         };
-        let at = At(self.shape.tick, self.call(rolls));
+        let at = At(tick, self.call(rolls));
         let Shape { damaged, long, .. } = self.shape;
         match self.below(100) {
             x if x < damaged => self.damaged_line(&at.to_string()),
@@ -302,28 +302,33 @@ impl Writer {
         self.bytes(&line);
     }
 
-    fn span(&mut self) -> u64 {
-        let Shape { span, grain, .. } = self.shape;
-        self.below(span) / grain * grain
+    fn grains(&mut self, bound: u64) -> u64 {
+        let grain = self.shape.grain;
+        self.below(bound) / grain * grain
     }
 
-    /// Mostly on; at times back, and to both ends.
-    fn turn_clock(&mut self) {
-        let Shape { tick, grain, .. } = self.shape;
-        let step = self.span();
+    /// Mostly on, by so little that a lifetime lasts for as many lines as there are keys; at times
+    /// back, and for one line to an end.
+    fn turn_clock(&mut self) -> u64 {
+        let Shape {
+            tick, span, grain, ..
+        } = self.shape;
         self.shape.tick = if self.below(100) < self.shape.back {
-            match self.below(8) {
-                0 => 0,
-                1 => pick(&mut self.random, &[u64::MAX, u64::MAX - 1, u64::MAX - 2]),
-                _ => tick.saturating_sub(step),
+            if self.below(4) == 0 {
+                return pick(
+                    &mut self.random,
+                    &[0, 1, u64::MAX - 2, u64::MAX - 1, u64::MAX],
+                );
             }
+            tick.saturating_sub(self.grains(span))
         } else {
             match self.below(4) {
-                0 => tick.saturating_add(step),
+                0 => tick.saturating_add(self.grains(span / self.shape.keys + 1)),
                 1 => tick.saturating_add(grain),
                 _ => tick,
             }
         };
+        self.shape.tick
     }
 
     fn key(&mut self) -> u64 {
@@ -356,7 +361,7 @@ impl Writer {
                 0 => pick_ttl(&mut self.random, &SHORTEST_TTLS),
                 _ => pick_ttl(&mut self.random, &LONGEST_TTLS),
             },
-            _ => Ttl::from_millis(self.span()),
+            _ => Ttl::from_millis(self.grains(self.shape.span)),
         }
     }
 
@@ -374,7 +379,9 @@ impl Writer {
             82..88 => Call::PurgeExpired,
             88..95 => Call::NextDeadline,
             95..99 => Call::LiveLen,
-            _ => Call::Clear,
+            // A large book is seldom cleared, so that it fills.
+            _ if self.below(self.size.capacity) < 5 => Call::Clear,
+            _ => Call::NextDeadline,
         }
     }
 

@@ -51,7 +51,7 @@ fn every_answer_is_there() {
         "(done ",
     ];
     for part in parts {
-        assert!(10 <= count(Kind::Churn, part), "{part}");
+        assert!(5 <= count(Kind::Churn, part), "{part}");
     }
     for (kind, number) in [
         (Kind::RefusedOpening, 1),
