@@ -39,15 +39,15 @@ fn write_text(text: &[u8], length: usize) {
 fn reply(letter: u8, n: [u64; 3], clock: MockClock) -> MockClock {
     match letter {
         b't' => {
-            ticks(duration(n[0], n[1]));
+            ticks(Duration::of(n[0], n[1]));
             clock
         }
         b'z' => {
-            yes_or_no(duration(n[0], n[1]).is_zero());
+            yes_or_no(Duration::of(n[0], n[1]).is_zero());
             clock
         }
         b'd' => {
-            deadline(Tick(n[0]), duration(n[1], n[2]));
+            deadline(Tick(n[0]), Duration::of(n[1], n[2]));
             clock
         }
         b'r' => {
@@ -56,25 +56,11 @@ fn reply(letter: u8, n: [u64; 3], clock: MockClock) -> MockClock {
         }
         b'c' => shown(MockClock::with_tick(Tick(n[0]))),
         b's' => set(clock, Tick(n[0])),
-        b'a' => advance(clock, duration(n[0], n[1])),
+        b'a' => advance(clock, Duration::of(n[0], n[1])),
         _ => {
             io::write_all(STDOUT_FILENO, b"no question");
             clock
         }
-    }
-}
-
-// A number of nanoseconds past u32 is refused as u32::MAX is.
-fn duration(secs: u64, nanos: u64) -> Duration {
-    if nanos < 0x1_0000_0000 {
-        return Duration {
-            secs,
-            nanos: nanos as u32,
-        };
-    }
-    Duration {
-        secs,
-        nanos: u32::MAX,
     }
 }
 

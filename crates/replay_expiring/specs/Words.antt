@@ -1,11 +1,12 @@
 -- Calls, openings and answers in words.
 use mathlib.Core.Bool.{cond}
 use mathlib.Core.List.{List}
-use Prim.Native.Nat.{ℕ, _+_, _*_, min}
+use Prim.Native.Nat.{ℕ, _+_, _*_}
 use lib.Dec.{eqb}
 use lib.ListN.{getD}
 use Rattle.time.specs.declared.tick.Tick.{Tick}
 use Rattle.time.specs.declared.duration.Duration.{Duration}
+use Rattle.time.specs.Duration.{durationOf}
 use Rattle.time.specs.declared.refusal.Outcome.{Outcome}
 use Rattle.time.specs.declared.refusal.Outcome.the-variants as outcome
 use Rattle.time.specs.Refusal.{numberOf}
@@ -17,10 +18,6 @@ use Rattle.expiring.specs.Model.{Call, insert, insertWithTtl, get, remove, clea
 use Rattle.replay.specs.declared.answer.Answer as replay
 use Rattle.replay.specs.Answers.{words, nothing, number, pair, done, refused}
 use Rattle.replay_expiring.specs.declared.call.Asked.{Asked}
-
--- the nanoseconds of a duration are 32 bits: a larger word is the largest of them, and so is refused as nanoseconds are
-abbrev pub durationOf : ℕ → ℕ → Duration
-durationOf secs nanos = record { secs = secs; nanos = min nanos 4294967295 }
 
 -- ---- a call: operation, tick, key, value, seconds, nanoseconds
 abbrev pub askedAt : List ℕ → ℕ → Asked

@@ -5,10 +5,10 @@ ghost use lib.ListN.{length};
 ghost use Rattle.replay_expiring.specs.Words.{defaultOf};
 ghost use Rattle.replay_expiring.specs.Runs.{Opens, Checked};
 use crate::answer;
-use crate::call;
 use crate::numbers;
 use expiring::DefaultDuration;
 use expiring::Expiring;
+use time::Duration;
 
 // Opens a book in the words, and writes its numbers and an answer. Says 1, or 0 where it did nothing: where there are fewer
 // than twelve numbers, six words of an opening or four words for the answer.
@@ -51,7 +51,7 @@ fn default_of(given: u64, secs: u64, nanos: u64) -> DefaultDuration
     if given == 0 {
         return DefaultDuration::Nothing;
     }
-    DefaultDuration::Of(call::duration_of(secs, nanos))
+    DefaultDuration::Of(Duration::of(secs, nanos))
 }
 
 // 1 where words and numbers form a book, otherwise 0.

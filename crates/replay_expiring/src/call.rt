@@ -3,7 +3,7 @@ ghost use mathlib.Core.Path.{_≡_};
 ghost use Prim.Native.Nat.{_+_, _*_, _<_, _≤_};
 ghost use lib.ListN.{length};
 ghost use Rattle.expiring.specs.Calls.{Following};
-ghost use Rattle.replay_expiring.specs.Words.{durationOf, askedAt, callIn, operations};
+ghost use Rattle.replay_expiring.specs.Words.{askedAt, callIn, operations};
 use expiring::Expiring;
 use expiring::Reply;
 use time::Duration;
@@ -18,27 +18,12 @@ pub struct Asked {
     pub ttl: Duration,
 }
 
-pub fn duration_of(secs: u64, nanos: u64) -> Duration
-    ensures { λ r. ⌜ r ≡ durationOf secs nanos ⌝ }
-{
-    if nanos < 4_294_967_295 {
-        return Duration {
-            secs,
-            nanos: nanos as u32,
-        };
-    }
-    Duration {
-        secs,
-        nanos: 4_294_967_295,
-    }
-}
-
 // The i-th call, counted from 0.
 pub fn asked_at(calls: &[u64], i: usize) -> Asked
     requires { ⌜ 6 * i + 6 ≤ length (now calls) ⌝ }
     ensures { λ r. ⌜ r ≡ askedAt (now (calls .entry)) i ⌝ }
 {
-    let ttl = duration_of(calls[6 * i + 4], calls[6 * i + 5]);
+    let ttl = Duration::of(calls[6 * i + 4], calls[6 * i + 5]);
     Asked {
         operation: calls[6 * i],
         tick: Tick(calls[6 * i + 1]),

@@ -2,16 +2,16 @@
 use mathlib.Core.Path.{_≡_}
 use mathlib.Core.Bool.{Bool, cond, _||_}
 use mathlib.Core.List.{List, [], _∷_, _++_}
-use Prim.Native.Nat.{ℕ, _<_, _≤_, min}
+use Prim.Native.Nat.{ℕ, _<_, _≤_}
 use lib.Dec.{ltb}
 use lib.ListN.{length}
 use lib.Seq.{sets}
 use Rattle.time.specs.declared.tick.Tick.{Tick}
-use Rattle.time.specs.declared.duration.Duration.{Duration}
 use Rattle.time.specs.declared.refusal.Outcome.{Outcome}
 use Rattle.time.specs.declared.refusal.Outcome.the-variants as outcome
 use Rattle.time.specs.declared.refusal.Refusal.{Refusal}
 use Rattle.time.specs.declared.refusal.Refusal.the-variants.{LimitOutOfRange, MalformedLine}
+use Rattle.time.specs.Duration.{durationOf}
 use Rattle.lazy_heap.specs.Model.{Heap, heapLen}
 use Rattle.lazy_heap.specs.Model as heap
 use Rattle.expiration_index.specs.declared.answers.Count.{Count}
@@ -37,10 +37,6 @@ use Rattle.session.specs.declared.step.Session.the-variants as session
 use Rattle.session.specs.declared.step.Stepped.{Stepped}
 use Rattle.session.specs.Forms.{Reads}
 use Rattle.session.specs.Answers.{lineOf}
-
--- nanoseconds are 32 bits: more are the largest of them, and so are refused as nanoseconds are
-abbrev pub durationOf : ℕ → ℕ → Duration
-durationOf secs nanos = record { secs = secs; nanos = min nanos 4294967295 }
 
 -- a form's call of the book
 abbrev pub callOf : Call → book.Call

@@ -14,6 +14,7 @@ use expiration_index::Count;
 use expiring::Answer;
 use expiring::DefaultDuration;
 use expiring::Expiring;
+use time::Duration;
 use time::Outcome;
 use time::Refusal;
 use time::Tick;
@@ -64,7 +65,7 @@ fn first(words: &mut [u64], form: Form, out: &mut [u8]) -> Stepped
             open(words, capacity, limit, seq, DefaultDuration::Nothing, out)
         }
         Form::BookWithTtl(capacity, limit, seq, secs, nanos) => {
-            let default_ttl = DefaultDuration::Of(ask::duration_of(secs, nanos));
+            let default_ttl = DefaultDuration::Of(Duration::of(secs, nanos));
             open(words, capacity, limit, seq, default_ttl, out)
         }
         Form::At(_, _) => refused_first(out, Refusal::MalformedLine),

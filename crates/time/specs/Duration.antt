@@ -7,6 +7,11 @@ use Rattle.time.specs.declared.duration.Ticked.{Ticked}
 use Rattle.time.specs.declared.duration.Ticked.the-variants.{Ticks, Refused}
 use Rattle.time.specs.declared.refusal.Refusal.the-variants.{InvalidNanos}
 
+-- two numbers from outside as a duration: nanoseconds are 32 bits, and larger ones are the largest of these, which is no
+-- duration either
+abbrev pub durationOf : ℕ → ℕ → Duration
+durationOf secs nanos = record { secs = secs; nanos = min nanos 4294967295 }
+
 -- the nanoseconds that a duration spans
 abbrev pub nanosOf : Duration → ℕ
 nanosOf d = d .secs * 1000000000 + d .nanos

@@ -1,6 +1,6 @@
 // A length of time, as `std::time::Duration` has it, and its whole milliseconds.
 ghost use mathlib.Core.Path.{_≡_};
-ghost use Rattle.time.specs.Duration.{millisOf, isZero, ticksOf};
+ghost use Rattle.time.specs.Duration.{durationOf, millisOf, isZero, ticksOf};
 use crate::refusal::Refusal;
 
 pub const NANOS_PER_SEC: u32 = 1_000_000_000;
@@ -24,6 +24,22 @@ pub enum Ticked {
 }
 
 impl Duration {
+    // Of two numbers from outside. Nanoseconds beyond 32 bits are taken for the largest of 32 bits, which is refused too.
+    pub fn of(secs: u64, nanos: u64) -> Duration
+        ensures { λ r. ⌜ r ≡ durationOf secs nanos ⌝ }
+    {
+        if nanos < 4_294_967_295 {
+            return Duration {
+                secs,
+                nanos: nanos as u32,
+            };
+        }
+        Duration {
+            secs,
+            nanos: 4_294_967_295,
+        }
+    }
+
     // Exactly zero: 999,999 nanoseconds are not, though they have 0 ticks.
     pub fn is_zero(self) -> bool
         ensures { λ r. ⌜ r ≡ isZero self ⌝ }

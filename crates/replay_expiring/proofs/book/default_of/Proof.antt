@@ -10,4 +10,4 @@ default-of-spec =
     (tie.spec
     (λ c. rw (eq-eqb _ _ (c .if1 .taken)))
     (λ c κs. search needs)
-    (λ c. rw (ne-eqb _ _ (c .before .if1 .left), c .duration-of .ensures)))
+    (λ c. rw (ne-eqb _ _ (c .before .if1 .left), c .of .ensures)))

@@ -22,7 +22,7 @@ first-spec =
     (λ c. rw (c .before .before .before .before .before .before .before .before .form .given .1) (c .before .before .before .before .«open» .ensures))
     (λ c. search needs)
     (λ c. search needs)
-    (λ c. rw (c .before .before .before .before .before .before .before .before .before .form2 .given .1, sym (c .before .before .before .before .before .before .before .duration-of .ensures)) (c .before .before .before .before .open2 .ensures))
+    (λ c. rw (c .before .before .before .before .before .before .before .before .before .form2 .given .1, sym (c .before .before .before .before .before .before .before .of .ensures)) (c .before .before .before .before .open2 .ensures))
     (λ c. search needs)
     (λ c. refuse-begins (c .before .before .before .before .before .before .before .before .pre) (c .before .before .refused-first .ensures) (rw (c .before .before .before .before .enum-told .given .1) refl) refl)
     (λ c. search needs)

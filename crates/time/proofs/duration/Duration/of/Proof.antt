@@ -1,13 +1,13 @@
--- The smaller of the word and the largest number of 32 bits.
+-- The smaller of the number and the largest of 32 bits.
 use mathlib.Core.Path.{_≡_, refl}
 use Prim.Native.Nat.{min}
 use native.Mathlib.Omega.{arith}
 use borrow.Author.Needs.{needs}
-use Rattle.replay_expiring.proofs.call.duration_of.Statement.{statement}
-use Rattle.replay_expiring.proofs.call.duration_of.Tie as tie
+use Rattle.time.proofs.duration.Duration.of.Statement.{statement}
+use Rattle.time.proofs.duration.Duration.of.Tie as tie
 
-pub duration-of-spec : {M : Type 1} → statement M
-duration-of-spec =
+pub of-spec : {M : Type 1} → statement M
+of-spec =
     tie.close
     (tie.spec
     (λ c. search needs)
