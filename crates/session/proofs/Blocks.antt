@@ -19,7 +19,7 @@ use Rattle.session.specs.Forms.{Reads}
 use Rattle.session.specs.Reading.{formIn}
 use Rattle.session.specs.Session.{State, step, printed, stateAfter, Stands, Written, room, Steps}
 use Rattle.session.specs.Lines.{Unbroken, joined, ReadAs, none, more, Safe, Follows, Reached, Runs, FirstNewline, ReadsLine}
-use Rattle.session.proofs.Texts.{parsed}
+use Rattle.session.proofs.Spellings.{parsed}
 
 -- one byte more without a newline
 pub unbroken-on : (bytes : List ℕ) (from i : ℕ) → ((j : ℕ) → from ≤ j → j < i → getD bytes j 0 ≢ 10) → getD bytes i 0 ≢ 10 → (j : ℕ) → from ≤ j → j < i + 1 → getD bytes j 0 ≢ 10

@@ -7,7 +7,7 @@ use Prim.Native.Nat.{ℕ, suc, _^_, _<_}
 use borrow.Author.Tests.{eqb-true, eqb-false, eq-eqb, not-true}
 use lib.Dec.{ltb, eqb}
 use lib.ListN.{getD, set}
-use Rattle.text.specs.Text.{bytes, decimal, fill}
+use Rattle.text.specs.Text.{decimal, fill}
 use Rattle.text.specs.Reading.{isDigit, readFrom, readIn}
 use Rattle.text.proofs.Fills.{fill-other, fill-number}
 use Rattle.text.proofs.Laws.{number-read}

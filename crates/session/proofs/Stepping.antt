@@ -35,7 +35,7 @@ use Rattle.session.specs.declared.step.Stepped.{Stepped}
 use Rattle.session.specs.Forms.{Reads}
 use Rattle.session.specs.Answers.{lineOf}
 use Rattle.session.specs.Session.{State, waiting, running, ended, Step, counts, refusedFirst, openedOf, opening, calling, malformed, step, callOf, Stands, unopened, opened, over, Written, Follows, room, Safe, Begins, Refuses, Continues, Tells, Steps}
-use Rattle.session.proofs.Texts.{reads-once}
+use Rattle.session.proofs.Spellings.{reads-once}
 use Rattle.session.proofs.Printing.{line-size}
 
 -- ---- a first line

@@ -1,3 +1,4 @@
+-- The first format that fits tells the form.
 use borrow.Author.Needs.{needs}
 use Rattle.session.specs.Reading.{bookIn}
 use Rattle.session.proofs.Wholes.{fits, unfit}
@@ -22,5 +23,9 @@ book-spec =
     (λ c. search needs)
     (λ c. search needs)
     (λ c. search needs)
-    (λ c. simp (unfit (c .before .before .before .before .before .whole .ensures) (c .before .before .before .before .if1 .left), fits (c .before .before .whole2 .ensures) (c .before .if2 .taken)))
-    (λ c. simp (unfit (c .before .before .before .before .whole .ensures) (c .before .before .before .if1 .left), unfit (c .before .whole2 .ensures) (c .if2 .left))))
+    (λ c.
+    let e1 = c .before .before .before .before in
+    simp (unfit (e1 .before .whole .ensures) (e1 .if1 .left), fits (c .before .before .whole2 .ensures) (c .before .if2 .taken)))
+    (λ c.
+    let e1 = c .before .before .before in
+    simp (unfit (e1 .before .whole .ensures) (e1 .if1 .left), unfit (c .before .whole2 .ensures) (c .if2 .left))))

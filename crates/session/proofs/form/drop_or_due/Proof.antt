@@ -1,3 +1,4 @@
+-- The first format that fits tells the form.
 use borrow.Author.Needs.{needs}
 use Rattle.session.specs.Reading.{dropIn}
 use Rattle.session.proofs.Wholes.{fits, unfit}
@@ -15,5 +16,9 @@ drop-or-due-spec =
     (λ c. simp (fits (c .before .before .whole .ensures) (c .before .if1 .taken)))
     (λ c. search needs)
     (λ c κs. search needs)
-    (λ c. simp (unfit (c .before .before .before .before .whole .ensures) (c .before .before .before .if1 .left), fits (c .before .whole2 .ensures) (c .if2 .taken)))
-    (λ c. simp (unfit (c .before .before .before .before .whole .ensures) (c .before .before .before .if1 .left), unfit (c .before .whole2 .ensures) (c .if2 .left))))
+    (λ c.
+    let e1 = c .before .before .before in
+    simp (unfit (e1 .before .whole .ensures) (e1 .if1 .left), fits (c .before .whole2 .ensures) (c .if2 .taken)))
+    (λ c.
+    let e1 = c .before .before .before in
+    simp (unfit (e1 .before .whole .ensures) (e1 .if1 .left), unfit (c .before .whole2 .ensures) (c .if2 .left))))

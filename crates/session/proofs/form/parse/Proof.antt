@@ -2,7 +2,7 @@
 use mathlib.Core.Path.{sym, _∙_}
 use borrow.Author.Needs.{needs}
 use Rattle.session.proofs.Wholes.{long-line, call-line, book-line}
-use Rattle.session.proofs.Texts.{parsed}
+use Rattle.session.proofs.Spellings.{parsed}
 use Rattle.session.proofs.form.parse.Statement.{statement}
 use Rattle.session.proofs.form.parse.Tie as tie
 
