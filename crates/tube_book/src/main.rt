@@ -2,8 +2,10 @@
 //
 // The answers to a block of input are written before the next block is read, so that whoever waits for an answer at the other
 // end of a pipe gets it.
-ghost use Prim.Native.Nat.{_+_, _≤_};
+ghost use mathlib.Core.Path.{_≡_};
+ghost use Prim.Native.Nat.{_+_, _≤_, min};
 ghost use lib.ListN.{length};
+ghost use Rattle.tube_book.specs.Keeping.{isEnded, Keeps};
 use libc::STDIN_FILENO;
 use libc::STDOUT_FILENO;
 use session::Session;
@@ -23,7 +25,9 @@ fn done() -> Reader {
     }
 }
 
-fn is_ended(session: Session) -> bool {
+fn is_ended(session: Session) -> bool
+    ensures { λ r. ⌜ r ≡ isEnded session ⌝ }
+{
     match session {
         Session::Waiting => false,
         Session::Open(_) => false,
@@ -31,12 +35,23 @@ fn is_ended(session: Session) -> bool {
     }
 }
 
-// Every loop has to end, and nothing says that an input does: the blocks are counted down from a number that no run uses up.
 // There are words for the largest book that a session opens, with 128 keys and 128 deadlines.
 fn main() {
-    let mut words = [0u64; 5248];
+    let mut words = words();
     let mut bytes = io::large_buffer();
     let mut out = io::large_buffer();
+    answer_all(&mut words, &mut bytes, &mut out);
+}
+
+// The `ensures` gives the length alone, which lending the array needs.
+fn words() -> [u64; 5248]
+    ensures { λ r. ⌜ 5248 ≡ length r ⌝ }
+{
+    [0; 5248]
+}
+
+// Every loop has to end, and nothing says that an input does: the blocks are counted down from a number that no run uses up.
+fn answer_all(words: &mut [u64], bytes: &mut [u8], out: &mut [u8]) {
     let mut reader = Reader {
         session: Session::Waiting,
         kept: 0,
@@ -44,7 +59,7 @@ fn main() {
     };
     let mut left = u64::MAX;
     while left > 0 {
-        reader = answer_block(reader, &mut words, &mut bytes, &mut out);
+        reader = answer_block(reader, words, bytes, out);
         if reader.is_done {
             return;
         }
@@ -84,10 +99,12 @@ fn answer_last(
 ) -> Reader
     requires { ⌜ kept ≤ length (now bytes) ⌝ }
 {
-    if 0 < kept {
-        let stepped = session.step(words, &bytes[..kept], out);
-        io::write_all(STDOUT_FILENO, &out[..stepped.written]);
+    if kept == 0 {
+        return done();
     }
+    let stepped = session.step(words, &bytes[..kept], out);
+    let written = stepped.written;
+    io::write_all(STDOUT_FILENO, &out[..written]);
     done()
 }
 
@@ -105,14 +122,16 @@ fn answer_lines(
     let mut start = 0;
     while start < size {
         let ran = session::run(session, words, &bytes[start..size], out);
+        let read = ran.read;
+        let written = ran.written;
         session = ran.session;
-        if !io::write_all(STDOUT_FILENO, &out[..ran.written]) {
+        if !io::write_all(STDOUT_FILENO, &out[..written]) {
             return done();
         }
-        if ran.read == 0 {
+        if read == 0 {
             return keep(session, bytes, start, size);
         }
-        start += ran.read;
+        start += read;
     }
     Reader {
         session,
@@ -124,6 +143,7 @@ fn answer_lines(
 // Moves what is left of the bytes to the start. A line of more than 200 bytes is no form, so that 201 of its bytes are enough.
 fn keep(session: Session, bytes: &mut [u8], start: usize, size: usize) -> Reader
     requires { ⌜ (start ≤ size) × (size ≤ length (now bytes)) ⌝ }
+    ensures { λ r. ⌜ Keeps session (now (bytes .entry)) start size (now (bytes .exit)) r ⌝ }
 {
     let kept = kept_of(size - start);
     let mut i = 0;
@@ -139,7 +159,7 @@ fn keep(session: Session, bytes: &mut [u8], start: usize, size: usize) -> Reader
 }
 
 fn kept_of(rest: usize) -> usize
-    ensures { λ r. ⌜ r ≤ rest ⌝ }
+    ensures { λ r. ⌜ r ≡ min rest 201 ⌝ }
 {
     if rest < 201 { rest } else { 201 }
 }
