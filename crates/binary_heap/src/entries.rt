@@ -57,10 +57,15 @@ fn precedes(a: Entry, b: Entry) -> bool
     a.key <= b.key
 }
 
-// Whether entry i is not after entry j.
+// Whether entry i is not after entry j. Most often the scores tell, and no other word is read.
 pub fn in_order(words: &[u64], i: usize, j: usize) -> bool
     requires { ⌜ Holds (length (now words)) i × Holds (length (now words)) j ⌝ }
     ensures { λ r. ⌜ r ≡ le (entryAt (now (words .entry)) i) (entryAt (now (words .entry)) j) ⌝ }
 {
+    let a = words[3 * i];
+    let b = words[3 * j];
+    if a != b {
+        return a < b;
+    }
     precedes(get(words, i), get(words, j))
 }

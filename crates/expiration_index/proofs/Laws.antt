@@ -16,15 +16,21 @@ use Rattle.expiration_index.specs.declared.index.ExpirationIndex.{Expira
 use Rattle.expiration_index.specs.declared.answers.Cleared.{Cleared}
 use Rattle.expiration_index.specs.declared.answers.Changed.{Changed}
 use Rattle.expiration_index.specs.declared.answers.Looked.{Looked}
-use Rattle.expiration_index.specs.Model.{Pair, Distinct, isFull, nextExpired}
+use Rattle.expiration_index.specs.declared.answers.Deadline.the-variants as deadline
+use Rattle.expiration_index.specs.Model.{Pair, Distinct, without, deadlineOf, isFull, nextExpired}
 use Rattle.expiration_index.specs.Index.{IsIndex, deadlines, heapOf, modelOf}
 use Rattle.expiration_index.specs.Calls.{limit, Clearing, Removing, NextDeadline, PoppingExpired, poppedExpired, takenIf, Setting}
 use Rattle.expiration_index.proofs.Pairs.{distinct-pairs, deadlines-length, full-deadlines}
+use Rattle.expiration_index.proofs.Pairs as pairs
 use Rattle.expiration_index.proofs.Nexts.{best-taken}
 
 -- the numbers tell how many deadlines there are
 pub model-length : (ws : List ℕ) (x : ExpirationIndex) → length (modelOf ws x) ≡ x .heap .scores .len
 model-length ws x = deadlines-length (heapOf ws x) ∙ map.model-length ws (x .heap .scores)
+
+-- a key that holds no deadline is removed for nothing
+pub removed-none : (k : ℕ) (m : Heap) → deadlineOf k (deadlines m) ≡ deadline.Nothing → (removed k m ≡ m) × (without k (deadlines m) ≡ deadlines m)
+removed-none k m e = let q = pairs.removed-none k m e in (q, sym (pairs.deadlines-removed k m) ∙ ap deadlines q)
 
 module _ {ws : List ℕ} {x : ExpirationIndex} (is : IsIndex ws x) where
   pub limit-some : 1 ≤ limit x

@@ -16,6 +16,7 @@ use Rattle.linked_hash_map.specs.declared.map.Taken.the-variants as taken
 use Rattle.linked_hash_map.specs.Model as held
 use Rattle.lazy_heap.specs.Model.{Heap, countAtMost, atMost, heldScore, tooMany, rebuilt, numbered, renumbered, beforePush, pushed, maybeRebuilt, updated, removed, peeked, cleared, opened}
 use Rattle.lazy_heap.specs.Model as lazy
+use Rattle.expiration_index.specs.declared.answers.Deadline.the-variants as deadline
 use Rattle.expiration_index.specs.Model.{Pair, Pairs, lookup, has, without, tell, deadlineOf, set, isFull, expiredCount, Distinct}
 use Rattle.expiration_index.specs.Model as model
 use Rattle.expiration_index.specs.Answers.{tick, deadlineIn, heldIn}
@@ -173,6 +174,29 @@ deadlines-cleared m = refl
 pub deadlines-removed : (k : ℕ) (m : Heap) → deadlines (removed k m) ≡ without k (deadlines m)
 unfolding deadlines removed
 deadlines-removed k m = without-pairs k (m .held)
+
+-- a key that holds none is removed for nothing
+none-held : (k : ℕ) (l : Pairs) → deadlineOf k l ≡ deadline.Nothing → has k l ≡ false
+unfolding deadlineOf lookup has
+none-held k [] e = refl
+none-held k (p ∷ l) e = go (eqb (p .key) k) e (none-held k l)
+  where
+    go : (b : Bool) → model.deadlineIn (cond b (some p) (lookup k l)) ≡ deadline.Nothing → (model.deadlineIn (lookup k l) ≡ deadline.Nothing → has k l ≡ false) → (b || has k l) ≡ false
+    go true q ih = absurd (let z : _≡_ {A = ℕ} 0 1 = cc in omega arith)
+    go false q ih = ih q
+
+without-none : (k : ℕ) (l : held.Model) → held.has k l ≡ false → held.without k l ≡ l
+unfolding held.has held.without
+without-none k [] e = refl
+without-none k (r ∷ l) e = go (eqb (r .key) k) e (without-none k l)
+  where
+    go : (b : Bool) → (b || held.has k l) ≡ false → (held.has k l ≡ false → held.without k l ≡ l) → cond b (held.without k l) (r ∷ held.without k l) ≡ r ∷ l
+    go true q ih = absurd (true≢false q)
+    go false q ih = ap (λ (m : held.Model). r ∷ m) (ih q)
+
+pub removed-none : (k : ℕ) (m : Heap) → deadlineOf k (deadlines m) ≡ deadline.Nothing → removed k m ≡ m
+unfolding removed deadlines
+removed-none k m e = ap (λ (l : held.Model). record { limit = m .limit; factor = m .factor; next = m .next; held = l; entries = m .entries }) (without-none k (m .held) (sym (has-pairs k (m .held)) ∙ none-held k (pairs (m .held)) e))
 
 pub deadlines-peeked : (m : Heap) → deadlines (peeked m) ≡ deadlines m
 unfolding deadlines peeked

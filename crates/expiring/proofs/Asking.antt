@@ -19,7 +19,6 @@ use Rattle.fast_lru.specs.declared.answers.Count.the-variants as stored
 use Rattle.fast_lru.specs.Model as list
 use Rattle.fast_lru.specs.Calls as lru
 use Rattle.fast_lru.specs.Lru as lists
-use Rattle.time.specs.Deadline.{isExpiredAt}
 use Rattle.expiration_index.specs.declared.answers.Deadline.{Deadline}
 use Rattle.expiration_index.specs.declared.answers.Deadline.the-variants as deadline
 use Rattle.expiration_index.specs.declared.answers.Count as counts
@@ -76,18 +75,9 @@ come t none d e = rw e
 come t (some p) d e = rw e
 
 module _ {ws : List ℕ} {b : Expiring} {k : ℕ} {d : Deadline} (t : Tick) (a : DeadlineOf ws b k d) where
-  expired-by : {r : Bool} → comeBy d t ≡ r → Expired ws b t k r
+  pub expired-by : {r : Bool} → r ≡ comeBy d t → Expired ws b t k r
   unfolding deadlineOf
-  expired-by e = record { answer = λ o. sym e ∙ come t (pairs.lookup k (deadlinesOf ws b)) d (a .answer o) }
-
-  pub expired-at : {x : Tick} {r : Bool} → d ≡ deadline.At x → r ≡ isExpiredAt x t → Expired ws b t k r
-  expired-at e f = expired-by (rw e (sym f))
-
-  pub expired-none : d ≡ deadline.Nothing → Expired ws b t k false
-  expired-none e = expired-by (rw e)
-
-  pub expired-never : {why : Refusal} → d ≡ deadline.Refused why → Expired ws b t k false
-  expired-never e = expired-by (rw e)
+  expired-by e = record { answer = λ o. e ∙ come t (pairs.lookup k (deadlinesOf ws b)) d (a .answer o) }
 
 -- ---- values
 said-yes : (x : Bool) → list.tell x ≡ told.Yes → x ≡ true

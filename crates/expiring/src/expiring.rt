@@ -7,7 +7,7 @@ ghost use Rattle.expiring.specs.declared.answers.Answer.the-variants as 
 ghost use Rattle.expiring.specs.Model.{contains, peek, get, insert, remove, clear, insertWithTtl, ttlStatus, setTtl, purgeExpired, liveLen, expirations, nextDeadline, touch, recencyRank, popLru, peekLru, keep, set, drop, dropAll, rankIn};
 ghost use Rattle.expiring.specs.Book.{Room, limitsOf, capacityOf, limitOf};
 ghost use Rattle.expiring.specs.Calls.{noBook, Following, Opening, Checking, DeadlinesHeld, HeapLength, SettingTtl};
-ghost use Rattle.expiring.specs.Steps.{ofFound, ofTold, ofOldest, ofDue, statusOf, isAccepted, defaultedBy, saturatingSum, withList, withIndex, withExpired, replying, purging, putting, DeadlineOf, Expired, Stored, StoredCount, ExpiredCount, Moved, same, Dating, Valuing, Inserting, Placing, PoppingExpired};
+ghost use Rattle.expiring.specs.Steps.{ofFound, ofTold, ofOldest, ofDue, statusOf, isAccepted, comeBy, defaultedBy, saturatingSum, withList, withIndex, withExpired, replying, purging, putting, DeadlineOf, Expired, Stored, StoredCount, ExpiredCount, Moved, same, Dating, Valuing, Inserting, Placing, PoppingExpired};
 ghost use Rattle.expiring.specs.Steps as steps;
 use crate::answers::Answer;
 use crate::answers::Reply;
@@ -153,6 +153,17 @@ fn is_accepted(answer: Deadline) -> bool
     match answer {
         Deadline::At(_) => true,
         Deadline::Nothing => true,
+        Deadline::Refused(_) => false,
+    }
+}
+
+// Whether a key's deadline, if it has one, has come.
+fn has_come(deadline: Deadline, tick: Tick) -> bool
+    ensures { λ r. ⌜ r ≡ comeBy deadline tick ⌝ }
+{
+    match deadline {
+        Deadline::At(d) => d.is_expired_at(tick),
+        Deadline::Nothing => false,
         Deadline::Refused(_) => false,
     }
 }
@@ -656,11 +667,7 @@ impl Expiring {
         requires { ⌜ Room (length (now words)) (capacityOf self) (limitOf self) ⌝ }
         ensures { λ r. ⌜ Expired (now (words .entry)) self tick key r ⌝ }
     {
-        match self.deadline_of(words, key) {
-            Deadline::At(d) => d.is_expired_at(tick),
-            Deadline::Nothing => false,
-            Deadline::Refused(_) => false,
-        }
+        has_come(self.deadline_of(words, key), tick)
     }
 
     fn is_stored(self, words: &[u64], key: u64) -> bool
@@ -734,6 +741,18 @@ impl Expiring {
         let changed = self.index.remove(&mut words[start..], key);
         let index = changed.index;
         self.with_index(index)
+    }
+
+    // The same, with the key's deadline in hand: there may be none to drop.
+    fn drop_held(self, words: &mut [u64], key: u64, deadline: Deadline) -> Expiring
+        requires { ⌜ Room (length (now words)) (capacityOf self) (limitOf self) × DeadlineOf (now words) self key deadline ⌝ }
+        ensures { λ r. ⌜ Moved (now (words .entry)) self (drop key) same (now (words .exit)) r 0 ⌝ }
+    {
+        match deadline {
+            Deadline::At(_) => self.drop_deadline(words, key),
+            Deadline::Nothing => self,
+            Deadline::Refused(_) => self,
+        }
     }
 
     fn drop_all_deadlines(self, words: &mut [u64]) -> Dated
@@ -845,9 +864,9 @@ impl Expiring {
         requires { ⌜ Room (length (now words)) (capacityOf self) (limitOf self) ⌝ }
         ensures { λ r. ⌜ Inserting (now (words .entry)) self tick key value (drop key) (now (words .exit)) r ⌝ }
     {
-        let was_expired = self.is_expired(words, tick, key);
-        let book = self.drop_deadline(words, key);
-        book.put_within(words, key, value, was_expired, 0)
+        let deadline = self.deadline_of(words, key);
+        let book = self.drop_held(words, key, deadline);
+        book.put_within(words, key, value, has_come(deadline, tick), 0)
     }
 
     // The value goes in; the old one is the answer, unless it was expired.

@@ -2,7 +2,7 @@ pub mod Lists
 pub mod Items
 pub mod Limits
 pub mod Slots
-pub mod Evicting
+pub mod Taking
 pub mod Placing
 pub mod Reading
 pub mod Changing

@@ -194,13 +194,9 @@ lookup-front k j l = go (keyed j l)
     go (missing a v h) = rw a
 
 -- ---- an item pushed out
-pub shorter-evicted : (l : Items) → 0 < length l → length (evicted l) < length l
-unfolding evicted victim
-shorter-evicted l h = go (last l) refl
-  where
-    go : (o : Option Item) → last l ≡ o → length (less o l) < length l
-    go none e = absurd (omega (arith, last-none l e))
-    go (some i) e = shorter-without (i .key) l (last-has l i e)
+pub victim-none : (l : Items) → victim l ≡ none → length l ≡ 0
+unfolding victim
+victim-none = last-none
 
 pub has-evicted : (k : ℕ) (l : Items) → has k l ≡ false → has k (evicted l) ≡ false
 unfolding evicted

@@ -1,12 +1,14 @@
--- `place`: the map says whether the key was there, was put in, or found no room, and then one item makes room.
+-- `place`: the map says whether the key was there, was put in, or found no room, and then it takes another's place.
 use mathlib.Core.Path.{_≡_, refl, sym, ap, _∙_}
 use mathlib.Core.Bool.{true, false}
 use mathlib.Core.List.{List, _∷_}
+use mathlib.Core.Option.{Option, none, some}
 use Prim.Native.Nat.{ℕ, _<_, _≤_}
 use native.Mathlib.Decide.{decLt}
 use native.Mathlib.Omega.{arith}
 use lib.ListN.{length}
 use borrow.Author.Tests.{lt-ltb, le-ltb}
+use Rattle.time.specs.declared.refusal.Refusal.{Refusal}
 use Rattle.linked_hash_map.specs.declared.map.LinkedHashMap.{LinkedHashMap}
 use Rattle.linked_hash_map.specs.declared.map.Record.{Record}
 use Rattle.linked_hash_map.specs.declared.map.Put.{Put}
@@ -15,18 +17,19 @@ use Rattle.linked_hash_map.specs.declared.map.Taken.the-variants as taken
 use Rattle.linked_hash_map.specs.Model as held
 use Rattle.linked_hash_map.specs.Map.{IsMap}
 use Rattle.linked_hash_map.specs.Map as map
-use Rattle.linked_hash_map.specs.Calls.{Putting}
+use Rattle.linked_hash_map.specs.Calls.{Putting, Recycling}
 use Rattle.linked_hash_map.proofs.Laws as laws
 use Rattle.linked_hash_map.proofs.Putting as putting
+use Rattle.linked_hash_map.proofs.Recycling.{recycled-new}
 use Rattle.fast_lru.specs.declared.lru.FastLru.{FastLru}
 use Rattle.fast_lru.specs.declared.answers.Found.the-variants as found
-use Rattle.fast_lru.specs.Model.{Items, has, without, valueIn, valueOf, evicted, inserted}
+use Rattle.fast_lru.specs.declared.answers.Oldest.{Oldest}
+use Rattle.fast_lru.specs.declared.answers.Oldest.the-variants as oldest
+use Rattle.fast_lru.specs.Model.{Item, Items, has, without, less, valueIn, itemIn, valueOf, victim, evicted, inserted}
 use Rattle.fast_lru.specs.Lru.{itemOf, items, modelOf}
-use Rattle.fast_lru.specs.Steps.{taking, Evicting, PlacingFull, Placing}
+use Rattle.fast_lru.specs.Steps.{taking, Choosing, PlacingFull, Placing}
 use Rattle.fast_lru.proofs.Items.{length-items, lookup-items, has-items, without-items}
-use Rattle.fast_lru.proofs.Lists.{shorter-without, shorter-evicted, has-evicted, inserted-none, inserted-over, inserted-new, inserted-full}
-use Rattle.fast_lru.proofs.Limits.{kept-then}
-use Rattle.fast_lru.proofs.Slots.{model-length}
+use Rattle.fast_lru.proofs.Lists.{without-missing, has-without-any, shorter-without, has-evicted, victim-none, victim-stored, inserted-none, inserted-over, inserted-new, inserted-full}
 
 -- the map's record at the front of the others
 put-over : (c : ℕ) (x : Record) (m : held.Model) → held.has (x .key) m ≡ true → items (held.put c x m) ≡ itemOf x ∷ without (x .key) (items m)
@@ -38,38 +41,58 @@ unfolding held.put
 put-new c x m h b = rw (h, lt-ltb (length m) c b) (ap (λ (l : Items). itemOf x ∷ l) (without-items (x .key) m))
 
 -- ---- a new key in a full list
-module _ (ws : List ℕ) (l : FastLru) (x : Record) where
-  pub placing-nothing : l .map .capacity ≡ 0 → PlacingFull ws l x ws l
-  placing-nothing z = record {
+-- an answer with no item
+pub nothing-not-item : {o : Oldest} → o ≡ oldest.Nothing → (k v : ℕ) → o ≡ oldest.Item k v → ⊥
+nothing-not-item e k v q = let z : _≡_ {A = ℕ} 0 1 = cc in omega arith
+
+pub refused-not-item : {o : Oldest} {why : Refusal} → o ≡ oldest.Refused why → (k v : ℕ) → o ≡ oldest.Item k v → ⊥
+refused-not-item e k v q = let z : _≡_ {A = ℕ} 0 1 = cc in omega arith
+
+module _ (ws : List ℕ) (l : FastLru) (x : Record) (o : Oldest) (chosen : Choosing ws l o) where
+  -- an empty list is full where there is no capacity
+  pub placing-nothing : ((k v : ℕ) → o ≡ oldest.Item k v → ⊥) → PlacingFull ws l x ws l
+  placing-nothing none-chosen = record {
     capacity = refl;
     map = λ is. is;
-    model = λ is h f. sym (inserted-none (l .map .capacity) (itemOf x) (modelOf ws l) z);
+    model = λ is h f. sym (inserted-none (l .map .capacity) (itemOf x) (modelOf ws l) (omega (arith, empty is)));
     kept = record { size = refl; past = λ j h. refl };
   }
+    where
+      empty : IsMap ws (l .map) → length (modelOf ws l) ≡ 0
+      empty is = go (victim (modelOf ws l)) refl
+        where
+          go : (i : Option Item) → victim (modelOf ws l) ≡ i → length (modelOf ws l) ≡ 0
+          go none e = victim-none (modelOf ws l) e
+          go (some i) e = absurd (none-chosen (i .key) (i .value) (chosen .answer is ∙ ap itemIn e))
 
-  module _ (ws₁ ws₂ : List ℕ) (e : FastLru) (p : Put) (z : l .map .capacity ≡ 0 → ⊥) (ev : Evicting ws l ws₁ e) (pt : Putting ws₁ (e .map) x ws₂ p) where
-    -- what is left after the eviction has room and not the key
-    room-left : IsMap ws (l .map) → l .map .capacity ≤ length (modelOf ws l) → length (map.modelOf ws₁ (e .map)) < e .map .capacity
-    unfolding modelOf
-    room-left is f =
-        let shorter : length (evicted (modelOf ws l)) < length (modelOf ws l) = shorter-evicted (modelOf ws l) (omega (arith, z)) in
-        omega (arith, shorter, length-items (map.modelOf ws₁ (e .map)), ap length (ev .model is), ev .capacity, model-length ws l, is .count)
+  module _ (k v : ℕ) (q : o ≡ oldest.Item k v) (ws′ : List ℕ) (r : LinkedHashMap) (rc : Recycling ws (l .map) k x ws′ r) where
+    -- the list without its victim
+    gone : IsMap ws (l .map) → (evicted (modelOf ws l) ≡ without k (modelOf ws l)) × (has k (modelOf ws l) ≡ true)
+    unfolding evicted
+    gone is = go (victim (modelOf ws l)) refl
+      where
+        go : (i : Option Item) → victim (modelOf ws l) ≡ i → (less (victim (modelOf ws l)) (modelOf ws l) ≡ without k (modelOf ws l)) × (has k (modelOf ws l) ≡ true)
+        go none e = absurd (let no : oldest.Item k v ≡ oldest.Nothing = sym q ∙ chosen .answer is ∙ ap itemIn e in let z : _≡_ {A = ℕ} 0 1 = cc in omega arith)
+        go (some i) e =
+            let same : oldest.Item k v ≡ oldest.Item (i .key) (i .value) = sym q ∙ chosen .answer is ∙ ap itemIn e in
+            let key : i .key ≡ k = cc in (
+              ap (λ (y : Option Item). less y (modelOf ws l)) e ∙ ap (λ (j : ℕ). without j (modelOf ws l)) key,
+              rw (sym key) (victim-stored (modelOf ws l) i e),
+            )
 
-    still-new : IsMap ws (l .map) → has (x .key) (modelOf ws l) ≡ false → held.has (x .key) (map.modelOf ws₁ (e .map)) ≡ false
-    unfolding modelOf
-    still-new is h = sym (has-items (x .key) (map.modelOf ws₁ (e .map))) ∙ ap (has (x .key)) (ev .model is) ∙ has-evicted (x .key) (modelOf ws l) h
-
-    pub placing-full : PlacingFull ws l x ws₂ (record { map = p .map })
+    pub placing-full : PlacingFull ws l x ws′ (record { map = r })
     unfolding modelOf
     placing-full = record {
-      capacity = pt .capacity ∙ ev .capacity;
-      map = λ is. pt .map (ev .map is);
+      capacity = rc .capacity;
+      map = rc .map;
       model = λ is h f.
-          ap items (pt .model (ev .map is))
-          ∙ put-new (e .map .capacity) x (map.modelOf ws₁ (e .map)) (still-new is h) (room-left is f)
-          ∙ ap (λ (y : Items). itemOf x ∷ without (x .key) y) (ev .model is)
-          ∙ sym (inserted-full (l .map .capacity) (itemOf x) (modelOf ws l) (omega (arith, z)) h f);
-      kept = kept-then (ev .kept) (pt .kept) (ev .capacity);
+          let m = map.modelOf ws (l .map) in
+          let stored : has k (items m) ≡ true = gone is .1 in
+          let new : held.has (x .key) (held.without k m) ≡ false = sym (has-items (x .key) (held.without k m)) ∙ ap (has (x .key)) (without-items k m) ∙ has-without-any (x .key) k (items m) h in
+          ap items (rc .model is ∙ recycled-new k x m (sym (has-items k m) ∙ stored) new)
+          ∙ ap (λ (y : Items). itemOf x ∷ y) (without-items k m ∙ sym (gone is .0) ∙ sym (without-missing (x .key) (evicted (items m)) (has-evicted (x .key) (items m) h)))
+          ∙ sym (inserted-full (l .map .capacity) (itemOf x) (items m) (omega (arith, shorter-without k (items m) stored, length-items m, putting.model-length ws (l .map), is .count)) h f);
+      kept = rc .kept;
     }
 
 -- ---- any key: what the map answers, and what that says of the list
@@ -119,12 +142,12 @@ module _ (ws : List ℕ) (l : FastLru) (x : Record) (ws′ : List ℕ) (p : Put)
   -- not the full case: the map's model is the list's
   put-in : (p .answer ≡ placed.Full → ⊥) → IsMap ws (l .map) → modelOf ws′ (record { map = p .map }) ≡ inserted (l .map .capacity) (itemOf x) (modelOf ws l)
   unfolding modelOf
-  put-in some is = ap items (pt .model is) ∙ go (the is)
+  put-in room is = ap items (pt .model is) ∙ go (the is)
     where
       go : The → items (held.put (l .map .capacity) x (map.modelOf ws (l .map))) ≡ inserted (l .map .capacity) (itemOf x) (items (map.modelOf ws (l .map)))
       go (over r e v m) = m
       go (new e v m) = m
-      go (full e v h f) = absurd (some (pt .answer is ∙ e))
+      go (full e v h f) = absurd (room (pt .answer is ∙ e))
 
   pub placing-over : (old : Record) → p .answer ≡ placed.Replaced old → Placing ws l x ws′ (record { lru = record { map = p .map }; answer = found.Value (old .first) })
   unfolding modelOf

@@ -22,7 +22,7 @@ use Rattle.fast_lru.specs.declared.answers.Rank.{Rank}
 use Rattle.fast_lru.specs.declared.answers.Rank.the-variants as rank
 use Rattle.fast_lru.specs.declared.answers.Got.{Got}
 use Rattle.fast_lru.specs.declared.answers.Popped.{Popped}
-use Rattle.fast_lru.specs.Model.{Item, Items, has, without, valueIn, itemIn, valueOf, victim, evicted, inserted, oldestOf, rankOf}
+use Rattle.fast_lru.specs.Model.{Item, Items, has, without, valueIn, itemIn, valueOf, victim, inserted, oldestOf, rankOf}
 use Rattle.fast_lru.specs.Lru.{itemOf, modelOf}
 
 -- the i-th item, counted from 0
@@ -76,13 +76,6 @@ pub record Taking (ws : List ℕ) (l : FastLru) (x : Oldest) (ws′ : List ℕ) 
   pub capacity : r .lru .map .capacity ≡ l .map .capacity
   pub map : IsMap ws (l .map) → IsMap ws′ (r .lru .map)
   pub model : IsMap ws (l .map) → modelOf ws′ (r .lru) ≡ lessItem x (modelOf ws l)
-  pub kept : words.Kept (l .map .capacity) ws ws′
-
--- `evict`
-pub record Evicting (ws : List ℕ) (l : FastLru) (ws′ : List ℕ) (r : FastLru) : Type 0 where
-  pub capacity : r .map .capacity ≡ l .map .capacity
-  pub map : IsMap ws (l .map) → IsMap ws′ (r .map)
-  pub model : IsMap ws (l .map) → modelOf ws′ r ≡ evicted (modelOf ws l)
   pub kept : words.Kept (l .map .capacity) ws ws′
 
 -- `place_evicting`: a new key in a full list

@@ -4,7 +4,7 @@ ghost use Rattle.fast_lru.specs.Refusals.{outOfRange, admitted};
 ghost use Rattle.fast_lru.specs.Refusals as refusals;
 ghost use Rattle.fast_lru.specs.Model.{tell, valueIn};
 ghost use Rattle.fast_lru.specs.Calls.{Opening, Clearing, Length, Emptiness, Capacity, Containing, Getting, Peeking, Inserting, Removing, Popping, PeekingOldest, Touching, Ranking, Checking};
-ghost use Rattle.fast_lru.specs.Steps.{isAt, taking, ValueAt, ItemAt, Picking, Choosing, Taking, Evicting, PlacingFull, Placing, RankFrom, RankOf};
+ghost use Rattle.fast_lru.specs.Steps.{isAt, taking, ValueAt, ItemAt, Picking, Choosing, Taking, PlacingFull, Placing, RankFrom, RankOf};
 use crate::answers::Count;
 use crate::answers::Found;
 use crate::answers::Got;
@@ -265,19 +265,19 @@ impl FastLru {
         }
     }
 
-    // A new key in a full list. With no capacity there is nothing to push out and nothing is stored.
+    // A new key in a full list takes the place of another. With no capacity there is none, and nothing is stored.
     fn place_evicting(self, words: &mut [u64], item: Record) -> FastLru
         ensures { λ r. ⌜ PlacingFull (now (words .entry)) self item (now (words .exit)) r ⌝ }
     {
-        let held = self.map;
-        if held.capacity == 0 {
-            return self;
+        match self.victim(words) {
+            Oldest::Item(key, _) => {
+                let held = self.map;
+                let map = held.recycle(words, key, item);
+                FastLru { map }
+            }
+            Oldest::Nothing => self,
+            Oldest::Refused(_) => self,
         }
-        let evicted = self.evict(words);
-        let rest = evicted.map;
-        let put = rest.put(words, item);
-        let map = put.map;
-        FastLru { map }
     }
 
     // The item that makes room for another.
@@ -285,14 +285,6 @@ impl FastLru {
         ensures { λ r. ⌜ Choosing (now (words .entry)) self r ⌝ }
     {
         self.oldest(words)
-    }
-
-    fn evict(self, words: &mut [u64]) -> FastLru
-        ensures { λ r. ⌜ Evicting (now (words .entry)) self (now (words .exit)) r ⌝ }
-    {
-        let item = self.victim(words);
-        let popped = self.take(words, item);
-        popped.lru
     }
 
     // Takes an item out of the list, by its key.

@@ -37,7 +37,7 @@ module _ (n : ℕ) (ws : List ℕ) where
   kept-set : (c v : ℕ) → c < cellCount n → Kept n ws (setCell ws n c v)
   kept-set c v b = record { size = set-length ws n c v; past = λ j h. set-outside ws n c v b j (inr (omega arith)) }
 
-  kept-erased : (c : ℕ) → c < cellCount n → Kept n ws (erased ws n c)
+  pub kept-erased : (c : ℕ) → c < cellCount n → Kept n ws (erased ws n c)
   kept-erased c b = record { size = erased-length ws n c; past = λ j h. erased-outside ws n c b j (inr (omega arith)) }
 
   kept-zeroed : Kept n ws (zeroed ws (cellsFrom n) (cellWords n))

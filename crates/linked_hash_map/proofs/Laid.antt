@@ -174,3 +174,74 @@ module _ {ws : List ℕ} {n : ℕ} {l f : List ℕ} (laid : Laid ws n l f) where
           (λ i h. entered-outside W n s (5 * i + 3) (inl (omega arith)))
           (λ i h. entered-outside W n s (5 * i + 4) (inl (omega arith)))
           (rw (entered-length W n s) (L .rings .fit))
+
+  -- ---- a live record's cell is emptied, and another record is written over it and put at the front
+  pub laid-recycled : (c d s : ℕ) (r : Record) → probe ws n (keyAt ws s) ≡ probed.At c s → ((x : ℕ) → List·Memᴰ x (without s l) → keyAt ws x ≡ r .key → ⊥) → probe (erased ws n c) n (r .key) ≡ probed.Free d → Laid (putIn (erased ws n c) n d s r) n (s ∷ without s l) f
+  unfolding putIn cellAt
+  laid-recycled c d s r e new q = record {
+    room = rw (length-moved (n + 2) (setCell W n d (s + 1)) n s) (rw (sym is-entered) (rw (entered-length W n s) room));
+    rings = rw (sym is-entered) (move-front links live);
+    index =
+        rw (sym is-entered)
+        (frame-words
+        (λ j h g. past-moved (n + 2) (entered W n s) n s j (omega arith))
+        (λ y p. getD-moved (n + 2) (entered W n s) n s (5 * y) (omega arith) (omega arith))
+        (entered-index W-index (room .words) (room .limit) s below
+        (λ x p g. new x p (sym (E-key x p) ∙ sym (other-key x p) ∙ g ∙ key))));
+  }
+    where
+      E : List ℕ
+      E = erased ws n c
+
+      W : List ℕ
+      W = written E s r
+
+      c-in : c < cellCount n
+      c-in = at-found ws n (keyAt ws s) c s e .cell
+
+      live : List·Memᴰ s l
+      live = found-live (laid .index) (keyAt ws s) c s e .0
+
+      below : s < n
+      below = live-below live
+
+      room : Room (length W) n
+      room = rw (length-written E s r) (rw (erased-length ws n c) (laid .room))
+
+      other : (x : ℕ) → List·Memᴰ x (without s l) → x ≡ s → ⊥
+      other x p = mem-without s x l .0 p .1
+
+      E-key : (x : ℕ) → List·Memᴰ x (without s l) → keyAt E x ≡ keyAt ws x
+      E-key x p = erased-outside ws n c c-in (5 * x) (inl (omega (arith, live-below (mem-without s x l .0 p .0))))
+
+      E-index : IndexOf E n (without s l)
+      E-index =
+          relabel
+          (λ x p. mem-without s x l .1 p)
+          (λ x p. mem-without s x l .0 p)
+          (erased-index (laid .index) (laid .room .words) (laid .room .limit) c s e)
+
+      other-key : (x : ℕ) → List·Memᴰ x (without s l) → keyAt W x ≡ keyAt E x
+      other-key x p = ap (λ (y : Record). y .key) (record-written-other E s r x (other x p))
+
+      W-index : IndexOf W n (without s l)
+      W-index = frame-words (λ j a b. written-other E s r j (omega (arith, below)) (omega (arith, below)) (omega (arith, below))) other-key E-index
+
+      key : keyAt W s ≡ r .key
+      key = ap (λ (y : Record). y .key) (record-written E s r (omega (arith, laid .room .words, erased-length ws n c, below)))
+
+      same : probe W n (r .key) ≡ probe E n (r .key)
+      same =
+          probe-same E W n (r .key)
+          (λ j h. ap (λ (w : ℕ). w / weight j % 65536) (written-other E s r (cellWord n j) (omega (arith, below)) (omega (arith, below)) (omega (arith, below))))
+          (λ j x h b g. other-key x (E-index .owned j x h b g))
+
+      is-entered : entered W n s ≡ setCell W n d (s + 1)
+      is-entered = entered-is W n s d (ap (probe W n) key ∙ same ∙ q)
+
+      links : Two (n + 2) (entered W n s) n l (n + 1) f
+      links =
+          two-frame (laid .rings) (entered W n s)
+          (λ i h. entered-outside W n s (5 * i + 3) (inl (omega arith)) ∙ written-prev E s r i ∙ erased-outside ws n c c-in (5 * i + 3) (inl (omega arith)))
+          (λ i h. entered-outside W n s (5 * i + 4) (inl (omega arith)) ∙ written-next E s r i ∙ erased-outside ws n c c-in (5 * i + 4) (inl (omega arith)))
+          (rw (entered-length W n s) (rw (length-written E s r) (rw (erased-length ws n c) (laid .rings .fit))))

@@ -31,6 +31,9 @@ free-not-at e d s q = let z : _≡_ {A = ℕ} 0 1 = cc in omega arith
 pub full-not-at : {r : Probe} → r ≡ probed.Full → (d s : ℕ) → r ≡ probed.At d s → ⊥
 full-not-at e d s q = let z : _≡_ {A = ℕ} 0 1 = cc in omega arith
 
+pub free-not-full : {r : Probe} {c : ℕ} → r ≡ probed.Free c → r ≡ probed.Full → ⊥
+free-not-full e q = let z : _≡_ {A = ℕ} 0 1 = cc in omega arith
+
 -- a record of the key is found
 pub record Hit (ws : List ℕ) (m : LinkedHashMap) (k s : ℕ) : Type 0 where
   pub live : List·Memᴰ s (liveOf ws m)

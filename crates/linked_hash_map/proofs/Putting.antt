@@ -95,7 +95,7 @@ module _ {ws : List ℕ} {m : LinkedHashMap} (k : ℕ) where
 
 -- ---- put
 -- the record at slot s in front, and the others of a list as they were
-in-front : (ws ws′ : List ℕ) (s : ℕ) (x : Record) (l : List ℕ) → recordAt ws′ s ≡ x → ((y : ℕ) → List·Memᴰ y l → recordAt ws′ y ≡ recordAt ws y) → records ws′ (s ∷ l) ≡ x ∷ records ws l
+pub in-front : (ws ws′ : List ℕ) (s : ℕ) (x : Record) (l : List ℕ) → recordAt ws′ s ≡ x → ((y : ℕ) → List·Memᴰ y l → recordAt ws′ y ≡ recordAt ws y) → records ws′ (s ∷ l) ≡ x ∷ records ws l
 in-front ws ws′ s x l at same = let ih : records ws′ l ≡ records ws l = records-same ws ws′ l same in cc
 
 module _ {ws : List ℕ} {m : LinkedHashMap} (x : Record) where
@@ -163,26 +163,31 @@ unfolding put
 put-new n x m e h = rw (e, lt-ltb (length m) n h)
 
 -- ---- the numbers and the cells after an insertion: entering the records anew changes no record
-module _ (P : List ℕ) (m : LinkedHashMap) (ws′ : List ℕ) (r : LinkedHashMap) (g : Grown P m ws′ r) where
-  either : (G : List ℕ → Type 0) → G P → G (refilled P (m .capacity) (lenAfter m)) → G ws′
+module _ (P : List ℕ) (m : LinkedHashMap) (k : ℕ) (ws′ : List ℕ) (r : LinkedHashMap) (g : Grown P m k ws′ r) where
+  either : (G : List ℕ → Type 0) → G P → G (refilled P (m .capacity) k) → G ws′
   either G a b = rw (g .words) (pick (ltb 1 (m .refill_in)))
     where
-      pick : (t : Bool) → G (cond t P (refilled P (m .capacity) (lenAfter m)))
+      pick : (t : Bool) → G (cond t P (refilled P (m .capacity) k))
       pick true = a
       pick false = b
 
-  grown-laid : (l f : List ℕ) → lenAfter m ≡ length l → Laid P (m .capacity) l f → Laid ws′ (m .capacity) l f
+  pub grown-laid : (l f : List ℕ) → k ≡ length l → Laid P (m .capacity) l f → Laid ws′ (m .capacity) l f
   grown-laid l f e laid = either (λ (ws : List ℕ). Laid ws (m .capacity) l f) laid (rw e (laid-refilled laid))
 
-  grown-record : (y : ℕ) → y < m .capacity → recordAt ws′ y ≡ recordAt P y
+  pub grown-record : (y : ℕ) → y < m .capacity → recordAt ws′ y ≡ recordAt P y
   grown-record y h =
       either (λ (ws : List ℕ). recordAt ws y ≡ recordAt P y) refl
-      (record-below (m .capacity) P (refilled P (m .capacity) (lenAfter m)) (λ j b. refilled-outside (m .capacity) (lenAfter m) j P (inl b)) y h)
+      (record-below (m .capacity) P (refilled P (m .capacity) k) (λ j b. refilled-outside (m .capacity) k j P (inl b)) y h)
 
-  grown-kept : Kept (m .capacity) P ws′
-  grown-kept = either (λ (ws : List ℕ). Kept (m .capacity) P ws) (kept-same (m .capacity) P) (kept-refilled (m .capacity) (lenAfter m) P)
+  pub grown-kept : Kept (m .capacity) P ws′
+  grown-kept = either (λ (ws : List ℕ). Kept (m .capacity) P ws) (kept-same (m .capacity) P) (kept-refilled (m .capacity) k P)
 
-put-record : (ws : List ℕ) (n c s : ℕ) (x : Record) (y : ℕ) → c < cellCount n → y < n → recordAt (putIn ws n c s x) y ≡ recordAt (written ws s x) y
+-- its three steps
+pub put-in : {w₁ w₂ w₃ : List ℕ} (ws : List ℕ) (n c s : ℕ) (r : Record) → w₁ ≡ written ws s r → w₂ ≡ setCell w₁ n c (s + 1) → w₃ ≡ ring.moved (n + 2) w₂ n s → w₃ ≡ putIn ws n c s r
+unfolding putIn
+put-in ws n c s r p q m = cc
+
+pub put-record : (ws : List ℕ) (n c s : ℕ) (x : Record) (y : ℕ) → c < cellCount n → y < n → recordAt (putIn ws n c s x) y ≡ recordAt (written ws s x) y
 unfolding putIn
 put-record ws n c s x y b h =
     record-moved (n + 2) (setCell (written ws s x) n c (s + 1)) n s y
@@ -243,19 +248,19 @@ module _ (ws : List ℕ) (m : LinkedHashMap) (x : Record) (c : ℕ) (f : fit (m 
         rw (lt-ltb (m .len) (m .capacity) room) (omega (arith, live-length ws m))
 
     new-laid : IsMap ws m → Laid ws′ (m .capacity) (s ∷ liveOf ws m) (ring.without s (freeOf ws m))
-    new-laid is = grown-laid P m ws′ (r .map) (ins .grown h) _ _ (count-after is) (laid-put (of-map is) c s x (some-free is h) (new is) e)
+    new-laid is = grown-laid P m (lenAfter m) ws′ (r .map) (ins .grown h) _ _ (count-after is) (laid-put (of-map is) c s x (some-free is h) (new is) e)
 
     -- what stands at the slots after the insertion
     new-at : IsMap ws m → recordAt ws′ s ≡ x
     new-at is =
-        grown-record P m ws′ (r .map) (ins .grown h) s h
+        grown-record P m (lenAfter m) ws′ (r .map) (ins .grown h) s h
         ∙ put-record ws (m .capacity) c s x s (free-vacant ws (m .capacity) (x .key) c e .cell) h
         ∙ record-written ws s x (omega (arith, is .room .words))
 
     new-other : IsMap ws m → (y : ℕ) → List·Memᴰ y (liveOf ws m) → recordAt ws′ y ≡ recordAt ws y
     new-other is y q =
         let b : y < m .capacity = live-below (of-map is) q in
-        grown-record P m ws′ (r .map) (ins .grown h) y b
+        grown-record P m (lenAfter m) ws′ (r .map) (ins .grown h) y b
         ∙ put-record ws (m .capacity) c s x y (free-vacant ws (m .capacity) (x .key) c e .cell) b
         ∙ record-written-other ws s x y (λ d. mem-not-both (is .rings) (Memᴰ·cast (sym d) q) (some-free is h))
 
@@ -282,7 +287,7 @@ module _ (ws : List ℕ) (m : LinkedHashMap) (x : Record) (c : ℕ) (f : fit (m 
           ∙ ap (λ (rest : Model). x ∷ rest) (sym (without-missing ws (x .key) (liveOf ws m) (h′ .none)))
           ∙ sym (put-new (m .capacity) x (modelOf ws m) (h′ .held) (room-left is));
       full = λ q. absurd (let z : _≡_ {A = ℕ} 0 1 = cc (ins .answer h) in omega arith);
-      kept = kept-then (kept-put (m .capacity) ws c s x (free-vacant ws (m .capacity) (x .key) c e .cell) h) (grown-kept P m ws′ (r .map) (ins .grown h));
+      kept = kept-then (kept-put (m .capacity) ws c s x (free-vacant ws (m .capacity) (x .key) c e .cell) h) (grown-kept P m (lenAfter m) ws′ (r .map) (ins .grown h));
     }
 
   -- the insertion of a key whose probe offers cell c

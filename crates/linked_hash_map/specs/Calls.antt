@@ -14,7 +14,7 @@ use Rattle.linked_hash_map.specs.declared.map.Opened.{Opened}
 use Rattle.linked_hash_map.specs.declared.map.Put.{Put}
 use Rattle.linked_hash_map.specs.declared.map.Removed.{Removed}
 use Rattle.linked_hash_map.specs.Words.{fit, Kept}
-use Rattle.linked_hash_map.specs.Model.{has, lookup, nth, without, toFront, withPayload, placing, put}
+use Rattle.linked_hash_map.specs.Model.{has, lookup, nth, without, toFront, withPayload, placing, put, recycled}
 use Rattle.linked_hash_map.specs.Map.{IsMap, modelOf, slotOf, slotAt}
 
 -- the numbers of a refused opening
@@ -89,6 +89,14 @@ pub record Removing (ws : List ℕ) (m : LinkedHashMap) (k : ℕ) (ws′ : List 
   pub capacity : r .map .capacity ≡ m .capacity
   pub map : IsMap ws m → IsMap ws′ (r .map)
   pub model : IsMap ws m → modelOf ws′ (r .map) ≡ without k (modelOf ws m)
+  pub kept : Kept (m .capacity) ws ws′
+
+-- `recycle`: a record at the front, in the place of another key's
+pub record Recycling (ws : List ℕ) (m : LinkedHashMap) (k : ℕ) (x : Record) (ws′ : List ℕ) (r : LinkedHashMap) : Type 0 where
+  pub refused : fit (m .capacity) (length ws) ≡ false → (r ≡ m) × (ws′ ≡ ws)
+  pub capacity : r .capacity ≡ m .capacity
+  pub map : IsMap ws m → IsMap ws′ r
+  pub model : IsMap ws m → modelOf ws′ r ≡ recycled k x (modelOf ws m)
   pub kept : Kept (m .capacity) ws ws′
 
 -- `first` and `last`: the ends of the order

@@ -61,6 +61,10 @@ placing n r m = placedOver (lookup (r .key) m) (ltb (length m) n)
 unfoldable pub put : ℕ → Record → Model → Model
 put n r m = cond (has (r .key) m || ltb (length m) n) (r ∷ without (r .key) m) m
 
+-- a record at the front in the place of a key's; where its own key is held, nowhere
+unfoldable pub recycled : ℕ → Record → Model → Model
+recycled k r m = cond (has k m) (cond (has (r .key) (without k m)) (without k m) (r ∷ without k m)) m
+
 -- no two records have one key
 abbrev pub Absent : ℕ → Model → Type 0
 Absent k m = has k m ≡ false

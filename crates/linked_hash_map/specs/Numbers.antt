@@ -4,7 +4,9 @@ use mathlib.Core.Bool.{cond}
 use mathlib.Core.List.{List}
 use Prim.Native.Nat.{ℕ, _+_, _-_, _*_, _<_, _≤_}
 use lib.Dec.{ltb}
-use Rattle.rings.specs.Ring.{next}
+use Rattle.rings.specs.Ring.{next, moved}
+use Rattle.cells.specs.declared.Probe.the-variants.{Free}
+use Rattle.cells.specs.Probe.{probe}
 use Rattle.linked_hash_map.specs.declared.map.LinkedHashMap.{LinkedHashMap}
 use Rattle.linked_hash_map.specs.declared.map.Record.{Record}
 use Rattle.linked_hash_map.specs.declared.map.Put.{Put}
@@ -29,15 +31,20 @@ slotFrom n x = cond (ltb x n) (At x) Nothing
 unfoldable pub lenAfter : LinkedHashMap → ℕ
 lenAfter m = cond (ltb (m .len) (m .capacity)) (m .len + 1) (m .capacity)
 
--- the numbers and the words after an insertion: most often the words stay
-pub record Grown (ws : List ℕ) (m : LinkedHashMap) (ws′ : List ℕ) (r : LinkedHashMap) : Type 0 where
+-- the numbers and the words after an insertion that leaves k records: most often the words stay
+pub record Grown (ws : List ℕ) (m : LinkedHashMap) (k : ℕ) (ws′ : List ℕ) (r : LinkedHashMap) : Type 0 where
   pub capacity : r .capacity ≡ m .capacity
-  pub count : r .len ≡ lenAfter m
+  pub count : r .len ≡ k
   pub opened : 1 ≤ r .refill_in
-  pub words : ws′ ≡ cond (ltb 1 (m .refill_in)) ws (refilled ws (m .capacity) (lenAfter m))
+  pub words : ws′ ≡ cond (ltb 1 (m .refill_in)) ws (refilled ws (m .capacity) k)
 
 -- an insertion with the cell to take in hand
 pub record Inserting (ws : List ℕ) (m : LinkedHashMap) (x : Record) (c : ℕ) (ws′ : List ℕ) (r : Put) : Type 0 where
   pub full : m .capacity ≤ next ws (m .capacity + 1) → (r ≡ record { map = m; answer = Full }) × (ws′ ≡ ws)
   pub answer : next ws (m .capacity + 1) < m .capacity → r .answer ≡ Inserted
-  pub grown : next ws (m .capacity + 1) < m .capacity → Grown (putIn ws (m .capacity) c (next ws (m .capacity + 1)) x) m ws′ (r .map)
+  pub grown : next ws (m .capacity + 1) < m .capacity → Grown (putIn ws (m .capacity) c (next ws (m .capacity + 1)) x) m (lenAfter m) ws′ (r .map)
+
+-- a record put over the one at slot s, which no cell holds; where its key is held, that one is free
+pub record Renewing (ws : List ℕ) (m : LinkedHashMap) (x : Record) (s : ℕ) (ws′ : List ℕ) (r : LinkedHashMap) : Type 0 where
+  pub put : (c : ℕ) → probe ws (m .capacity) (x .key) ≡ Free c → Grown (putIn ws (m .capacity) c s x) m (m .len) ws′ r
+  pub freed : ((c : ℕ) → probe ws (m .capacity) (x .key) ≡ Free c → ⊥) → (r ≡ shrunkMap m) × (ws′ ≡ moved (m .capacity + 2) ws (m .capacity + 1) s)

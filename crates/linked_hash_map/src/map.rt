@@ -4,8 +4,8 @@ ghost use Prim.Native.Nat.{_+_, _-_, _<_, _≤_};
 ghost use lib.ListN.{length};
 ghost use Rattle.cells.specs.Cells.{cellCount};
 ghost use Rattle.linked_hash_map.specs.Words.{fit, Room, Nodes, recordAt, written, emptied, refilled, replaced, takenOut};
-ghost use Rattle.linked_hash_map.specs.Numbers.{emptyMap, shrunkMap, slotFrom, Grown, Inserting};
-ghost use Rattle.linked_hash_map.specs.Calls.{Opening, Clearing, Finding, Touching, Reading, Writing, Putting, Removing, Ending, Next, Previous, Checking};
+ghost use Rattle.linked_hash_map.specs.Numbers.{emptyMap, shrunkMap, slotFrom, lenAfter, Grown, Inserting, Renewing};
+ghost use Rattle.linked_hash_map.specs.Calls.{Opening, Clearing, Finding, Touching, Reading, Writing, Putting, Removing, Recycling, Ending, Next, Previous, Checking};
 use crate::check;
 use crate::index;
 use crate::links;
@@ -323,7 +323,7 @@ impl LinkedHashMap {
     // The numbers after an insertion, and now and then the cells anew.
     fn grown(self, words: &mut [u64]) -> LinkedHashMap
         requires { ⌜ Room (length (now words)) (self .capacity) ⌝ }
-        ensures { λ r. ⌜ Grown (now (words .entry)) self (now (words .exit)) r ⌝ }
+        ensures { λ r. ⌜ Grown (now (words .entry)) self (lenAfter self) (now (words .exit)) r ⌝ }
     {
         let n = self.capacity;
         let len = if self.len < n { self.len + 1 } else { n };
@@ -366,6 +366,72 @@ impl LinkedHashMap {
                 map: self,
                 answer: Taken::Nothing,
             },
+        }
+    }
+
+    // Takes a key's record out and puts another in its place, at the front; where that one's key is held, nowhere. It is
+    // what `remove` and `put` would do, but the record stays in its ring.
+    pub fn recycle(self, words: &mut [u64], key: u64, item: Record) -> LinkedHashMap
+        ensures { λ r. ⌜ Recycling (now (words .entry)) self key item (now (words .exit)) r ⌝ }
+    {
+        let n = self.capacity;
+        if !has_room(n, words.len()) {
+            return self;
+        }
+        match index::probe(words, n, key) {
+            Probe::At(c, s) => {
+                index::erase(words, n, c);
+                self.renew(words, item, s)
+            }
+            Probe::Free(_) => self,
+            Probe::Full => self,
+        }
+    }
+
+    // Puts a record at the front, over the one at a slot that no cell holds.
+    fn renew(self, words: &mut [u64], item: Record, slot: usize) -> LinkedHashMap
+        requires { ⌜ Room (length (now words)) (self .capacity) × (slot < self .capacity) ⌝ }
+        ensures { λ r. ⌜ Renewing (now (words .entry)) self item slot (now (words .exit)) r ⌝ }
+    {
+        let n = self.capacity;
+        match index::probe(words, n, item.key) {
+            Probe::Free(c) => {
+                write_record(words, slot, item);
+                index::set_cell(words, n, c, slot as u64 + 1);
+                links::move_after(words, n + 2, n, slot);
+                self.renewed(words)
+            }
+            Probe::At(_, _) => {
+                links::move_after(words, n + 2, n + 1, slot);
+                self.shrunk()
+            }
+            Probe::Full => {
+                links::move_after(words, n + 2, n + 1, slot);
+                self.shrunk()
+            }
+        }
+    }
+
+    // As `grown`, with no record more.
+    fn renewed(self, words: &mut [u64]) -> LinkedHashMap
+        requires { ⌜ Room (length (now words)) (self .capacity) ⌝ }
+        ensures { λ r. ⌜ Grown (now (words .entry)) self (self .len) (now (words .exit)) r ⌝ }
+    {
+        let n = self.capacity;
+        let len = self.len;
+        let refill_in = self.refill_in;
+        if 1 < refill_in {
+            return LinkedHashMap {
+                capacity: n,
+                len,
+                refill_in: refill_in - 1,
+            };
+        }
+        refill(words, n, len);
+        LinkedHashMap {
+            capacity: n,
+            len,
+            refill_in: 6 * n + 96,
         }
     }
 

@@ -1,4 +1,5 @@
 use mathlib.Core.Path.{refl}
+use Rattle.expiring.proofs.Asking.{expired-by}
 use Rattle.expiring.proofs.Calling.{inserting}
 use borrow.Author.Needs.{needs}
 use Rattle.expiring.proofs.expiring.Expiring.insert_forever.Statement.{statement}
@@ -11,5 +12,6 @@ insert-forever-spec =
     (λ c κs. search needs)
     (λ c κs. search needs)
     (λ c κs. search needs)
+    (λ c κs. search needs)
     (λ c. search needs)
-    (λ c. let p = c .before .before in let d = p .before .before .before .before in inserting (d .drop-deadline .ensures) (λ o. refl) (d .before .before .is-expired .ensures) (p .put-within .ensures)))
+    (λ c. let p = c .before .before in let h = p .before in let d = h .before .before .before .before in inserting (d .drop-held .ensures) (λ o. refl) (expired-by _ (d .before .before .deadline-of .ensures) (h .has-come .ensures)) (p .put-within .ensures)))

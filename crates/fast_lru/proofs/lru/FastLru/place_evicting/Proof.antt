@@ -1,6 +1,6 @@
--- After the eviction there is room, and the key is still new.
+-- The new key takes the victim's place; a list with no victim is empty.
 use borrow.Author.Needs.{needs}
-use Rattle.fast_lru.proofs.Placing.{placing-nothing, placing-full}
+use Rattle.fast_lru.proofs.Placing.{nothing-not-item, refused-not-item, placing-nothing, placing-full}
 use Rattle.fast_lru.proofs.lru.FastLru.place_evicting.Statement.{statement}
 use Rattle.fast_lru.proofs.lru.FastLru.place_evicting.Tie as tie
 
@@ -8,8 +8,14 @@ pub place-evicting-spec : {M : Type 1} → statement M
 place-evicting-spec =
     tie.close
     (tie.spec
-    (λ c. placing-nothing _ _ _ (c .if1 .taken))
-    (λ c κs. search needs)
     (λ c κs. search needs)
     (λ c. search needs)
-    (λ c. placing-full _ _ _ _ _ _ _ (c .before .before .before .before .before .before .before .before .before .before .if1 .left) (c .before .before .before .before .before .before .before .before .evict .ensures) (c .before .before .before .put .ensures)))
+    (λ c κs. search needs)
+    (λ c. search needs)
+    (λ c. search needs)
+    (λ c. search needs)
+    (λ c. placing-full _ _ _ _ (c .before .before .before .before .before .before .before .before .victim .ensures) _ _ (c .before .before .before .before .before .before .key .given .1) _ _ (c .before .before .recycle .ensures))
+    (λ c. search needs)
+    (λ c. placing-nothing _ _ _ _ (c .before .before .victim .ensures) (nothing-not-item (c .enum-told .given .1)))
+    (λ c. search needs)
+    (λ c. placing-nothing _ _ _ _ (c .before .before .victim .ensures) (refused-not-item (c .enum-told2 .given .1))))

@@ -1,7 +1,7 @@
 -- The map takes the item out by its key; an answer with no item changes nothing.
 use mathlib.Core.Path.{refl}
 use borrow.Author.Needs.{needs}
-use Rattle.fast_lru.proofs.Evicting.{taking-item, taking-none}
+use Rattle.fast_lru.proofs.Taking.{taking-item, taking-none}
 use Rattle.fast_lru.proofs.lru.FastLru.take.Statement.{statement}
 use Rattle.fast_lru.proofs.lru.FastLru.take.Tie as tie
 

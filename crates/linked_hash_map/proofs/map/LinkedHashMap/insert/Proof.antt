@@ -5,19 +5,13 @@ use Prim.Native.Nat.{ℕ, _+_, _*_}
 use native.Mathlib.Omega.{arith}
 use lib.ListN.{getD}
 use borrow.Author.Needs.{needs}
-use Rattle.rings.specs.Ring.{next, moved}
-use Rattle.cells.specs.Cells.{setCell}
-use Rattle.linked_hash_map.specs.declared.map.Record.{Record}
-use Rattle.linked_hash_map.specs.Words.{written, putIn}
+use Rattle.rings.specs.Ring.{next}
+use Rattle.linked_hash_map.proofs.Putting.{put-in}
 use Rattle.linked_hash_map.proofs.map.LinkedHashMap.insert.Statement.{statement}
 use Rattle.linked_hash_map.proofs.map.LinkedHashMap.insert.Tie as tie
 
 free-link : (ws : List ℕ) (n : ℕ) → next ws (n + 1) ≡ getD ws (5 * n + 9) 0
 free-link ws n = ap (λ (j : ℕ). getD ws j 0) (omega arith)
-
-put-in : {w₁ w₂ w₃ : List ℕ} (ws : List ℕ) (n c s : ℕ) (r : Record) → w₁ ≡ written ws s r → w₂ ≡ setCell w₁ n c (s + 1) → w₃ ≡ moved (n + 2) w₂ n s → w₃ ≡ putIn ws n c s r
-unfolding putIn
-put-in ws n c s r p q m = cc
 
 full : tie.Need-returns
 full c =

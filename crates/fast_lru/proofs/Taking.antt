@@ -1,4 +1,4 @@
--- `take` and `evict`: an item goes by its key.
+-- `take`: an item goes by its key.
 use mathlib.Core.Path.{_≡_, refl, sym, ap, _∙_}
 use mathlib.Core.List.{List}
 use mathlib.Core.Option.{Option, none, some}
@@ -11,9 +11,9 @@ use Rattle.fast_lru.specs.declared.lru.FastLru.{FastLru}
 use Rattle.fast_lru.specs.declared.answers.Oldest.{Oldest}
 use Rattle.fast_lru.specs.declared.answers.Oldest.the-variants as oldest
 use Rattle.fast_lru.specs.declared.answers.Popped.{Popped}
-use Rattle.fast_lru.specs.Model.{Item, Items, without, less, itemIn, victim, evicted}
+use Rattle.fast_lru.specs.Model.{Item, Items, without, less, itemIn}
 use Rattle.fast_lru.specs.Lru.{items, modelOf}
-use Rattle.fast_lru.specs.Steps.{lessItem, Choosing, Taking, Evicting}
+use Rattle.fast_lru.specs.Steps.{lessItem, Taking}
 use Rattle.fast_lru.proofs.Items.{without-items}
 
 -- a removal's model
@@ -42,13 +42,4 @@ module _ (ws : List ℕ) (l : FastLru) where
     map = λ is. is;
     model = λ is. sym (ap (λ (z : Oldest). lessItem z (modelOf ws l)) q ∙ e);
     kept = record { size = refl; past = λ j h. refl };
-  }
-
-  pub evicting : (x : Oldest) (ws′ : List ℕ) (r : Popped) → Choosing ws l x → Taking ws l x ws′ r → Evicting ws l ws′ (r .lru)
-  unfolding evicted
-  evicting x ws′ r chosen taken = record {
-    capacity = taken .capacity;
-    map = taken .map;
-    model = λ is. taken .model is ∙ ap (λ (y : Oldest). lessItem y (modelOf ws l)) (chosen .answer is) ∙ less-item (victim (modelOf ws l)) (modelOf ws l);
-    kept = taken .kept;
   }
