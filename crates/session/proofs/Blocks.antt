@@ -11,15 +11,15 @@ use lib.Seq.{sets, sets-eq, slice, take-nil, length-slice, take-suc, getD-drop, 
 use Rattle.rings.proofs.Counts.{by-lt}
 use Rattle.lazy_heap.proofs.Parts.{part-length}
 use Rattle.expiring.proofs.Frames.{rest-is, rest-length}
-use Rattle.session.specs.declared.form.Form.{Form}
+use Rattle.forms.specs.declared.form.Form.{Form}
 use Rattle.session.specs.declared.lines.Ran.{Ran}
 use Rattle.session.specs.declared.step.Session.{Session}
 use Rattle.session.specs.declared.step.Stepped.{Stepped}
-use Rattle.session.specs.Forms.{Reads}
-use Rattle.session.specs.Reading.{formIn}
+use Rattle.forms.specs.Forms.{Reads}
+use Rattle.forms.specs.Reading.{formIn}
 use Rattle.session.specs.Session.{State, step, printed, stateAfter, Stands, Written, room, Steps}
 use Rattle.session.specs.Lines.{Unbroken, joined, ReadAs, none, more, Safe, Follows, Reached, Runs, FirstNewline, ReadsLine}
-use Rattle.session.proofs.Spellings.{parsed}
+use Rattle.forms.proofs.Spellings.{parsed}
 
 -- one byte more without a newline
 pub unbroken-on : (bytes : List ℕ) (from i : ℕ) → ((j : ℕ) → from ≤ j → j < i → getD bytes j 0 ≢ 10) → getD bytes i 0 ≢ 10 → (j : ℕ) → from ≤ j → j < i + 1 → getD bytes j 0 ≢ 10

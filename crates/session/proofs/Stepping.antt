@@ -26,16 +26,16 @@ use Rattle.expiring.specs.Model as book
 use Rattle.expiring.specs.Book.{IsBook, heapOf, modelOf}
 use Rattle.expiring.specs.Calls.{Following, Opening, openingOf, defaultOf}
 use Rattle.session.specs.declared.answer.Counts.{Counts}
-use Rattle.session.specs.declared.form.Call.{Call}
-use Rattle.session.specs.declared.form.Form.{Form}
-use Rattle.session.specs.declared.form.Form.the-variants as form
+use Rattle.forms.specs.declared.form.Call.{Call}
+use Rattle.forms.specs.declared.form.Form.{Form}
+use Rattle.forms.specs.declared.form.Form.the-variants as form
 use Rattle.session.specs.declared.step.Session as code
 use Rattle.session.specs.declared.step.Session.the-variants as session
 use Rattle.session.specs.declared.step.Stepped.{Stepped}
-use Rattle.session.specs.Forms.{Reads}
+use Rattle.forms.specs.Forms.{Reads}
 use Rattle.session.specs.Answers.{lineOf}
 use Rattle.session.specs.Session.{State, waiting, running, ended, Step, counts, refusedFirst, openedOf, opening, calling, malformed, step, callOf, Stands, unopened, opened, over, Written, Follows, room, Safe, Begins, Refuses, Continues, Tells, Steps}
-use Rattle.session.proofs.Spellings.{reads-once}
+use Rattle.forms.proofs.Spellings.{reads-once}
 use Rattle.session.proofs.Printing.{line-size}
 
 -- ---- a first line

@@ -1,5 +1,3 @@
-pub mod Forms
-pub mod Reading
 pub mod Answers
 pub mod Session
 pub mod Lines

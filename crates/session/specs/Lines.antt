@@ -5,10 +5,10 @@ use mathlib.Core.List.{List, [], _∷_, _++_}
 use Prim.Native.Nat.{ℕ, _+_, _<_, _≤_}
 use lib.ListN.{length, getD, take, drop}
 use lib.Seq.{sets, slice}
-use Rattle.session.specs.declared.form.Form.{Form}
+use Rattle.forms.specs.declared.form.Form.{Form}
 use Rattle.session.specs.declared.lines.Ran.{Ran}
 use Rattle.session.specs.declared.step.Session.{Session}
-use Rattle.session.specs.Forms.{Reads}
+use Rattle.forms.specs.Forms.{Reads}
 use Rattle.session.specs.Session.{State, step, printed, stateAfter, Stands, Written, room}
 
 -- no newline among the bytes

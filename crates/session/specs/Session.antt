@@ -28,14 +28,14 @@ use Rattle.expiring.specs.Discards.{discardedBy, heapBy}
 use Rattle.expiring.specs.Book.{IsBook, heapOf, modelOf}
 use Rattle.expiring.specs.Calls.{openingOf, defaultOf}
 use Rattle.session.specs.declared.answer.Counts.{Counts}
-use Rattle.session.specs.declared.form.Call.{Call}
-use Rattle.session.specs.declared.form.Call.the-variants as call
-use Rattle.session.specs.declared.form.Form.{Form}
-use Rattle.session.specs.declared.form.Form.the-variants as form
+use Rattle.forms.specs.declared.form.Call.{Call}
+use Rattle.forms.specs.declared.form.Call.the-variants as call
+use Rattle.forms.specs.declared.form.Form.{Form}
+use Rattle.forms.specs.declared.form.Form.the-variants as form
 use Rattle.session.specs.declared.step.Session as code
 use Rattle.session.specs.declared.step.Session.the-variants as session
 use Rattle.session.specs.declared.step.Stepped.{Stepped}
-use Rattle.session.specs.Forms.{Reads}
+use Rattle.forms.specs.Forms.{Reads}
 use Rattle.session.specs.Answers.{lineOf}
 
 -- a form's call of the book

@@ -1,9 +1,9 @@
 // A form's call, made on the book.
 ghost use Rattle.expiring.specs.Calls.{Following};
 ghost use Rattle.session.specs.Session.{callOf};
-use crate::form::Call;
 use expiring::Expiring;
 use expiring::Reply;
+use forms::Call;
 use time::Duration;
 use time::Tick;
 

@@ -8,12 +8,11 @@ ghost use Rattle.session.specs.Session.{waiting, step, opening, room, St
 use crate::answer;
 use crate::answer::Counts;
 use crate::ask;
-use crate::form;
-use crate::form::Form;
 use expiration_index::Count;
 use expiring::Answer;
 use expiring::DefaultDuration;
 use expiring::Expiring;
+use forms::Form;
 use time::Duration;
 use time::Outcome;
 use time::Refusal;
@@ -45,8 +44,8 @@ impl Session {
             };
         }
         match self {
-            Session::Waiting => first(words, form::parse(line), out),
-            Session::Open(book) => next(book, words, form::parse(line), out),
+            Session::Waiting => first(words, forms::parse(line), out),
+            Session::Open(book) => next(book, words, forms::parse(line), out),
             Session::Ended => Stepped {
                 session: Session::Ended,
                 written: 0,

@@ -21,8 +21,8 @@ pub moved-on : (bytes : List ℕ) (start : ℕ) (bytes′ : List ℕ) (i : ℕ) 
 moved-on bytes start bytes′ i m h = record {
   size = rw length-set (m .size);
   front =
-    let here : i < length bytes′ = omega (arith, m .size) in
-    let there : i < length (drop start bytes) = simp length-drop (omega arith) in
-    rw (add-one, take-suc-set, take-suc (drop start bytes) i 0, getD-drop, m .front, m .rest (start + i) (omega arith));
-  rest = λ j l. let other : j ≢ i = omega arith in getD-set-other bytes′ i j _ 0 other ∙ m .rest j (omega arith)
-  }
+      let here : i < length bytes′ = omega (arith, m .size) in
+      let there : i < length (drop start bytes) = simp length-drop (omega arith) in
+      rw (add-one, take-suc-set, take-suc (drop start bytes) i 0, getD-drop, m .front, m .rest (start + i) (omega arith));
+  rest = λ j l. let other : j ≢ i = omega arith in getD-set-other bytes′ i j _ 0 other ∙ m .rest j (omega arith);
+}
