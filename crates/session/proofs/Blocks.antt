@@ -6,11 +6,12 @@ use Prim.Native.Nat.{ℕ, zero, suc, _+_, _-_, _<_, _≤_}
 use native.Mathlib.Omega.{arith}
 use native.Mathlib.Numerals.{add-one}
 use borrow.Rule.Slice.PartMut.{midOf, putMid, post-is}
-use lib.ListN.{length, getD, take, drop, set, length-append, length-drop, take-append-drop, List·getD-eq-default}
+use lib.ListN.{length, getD, take, drop, length-append, length-drop, take-append-drop, List·getD-eq-default}
 use lib.Seq.{sets, sets-eq, slice, take-nil, length-slice, take-suc, getD-drop, getD-take, drop-drop, drop-length, take-take}
 use Rattle.rings.proofs.Counts.{by-lt}
 use Rattle.lazy_heap.proofs.Parts.{part-length}
 use Rattle.expiring.proofs.Frames.{rest-is, rest-length}
+use Rattle.text.proofs.Laws.{sets-append}
 use Rattle.forms.specs.declared.form.Form.{Form}
 use Rattle.session.specs.declared.lines.Ran.{Ran}
 use Rattle.session.specs.declared.step.Session.{Session}
@@ -46,15 +47,11 @@ printed-then size st [] f = append-nil (step size st f .1)
 printed-then size st (g ∷ fs) f = ap (λ (z : List ℕ). step size st g .1 ++ z) (printed-then size (step size st g .0) fs f) ∙ sym (append-assoc (step size st g .1) (printed size (step size st g .0) fs) _)
 
 -- ---- one text behind another
-sets-then : (l : List ℕ) (i : ℕ) (xs ys : List ℕ) → sets (sets l i xs) (i + length xs) ys ≡ sets l i (xs ++ ys)
-sets-then l i [] ys = ap (λ (z : ℕ). sets l z ys) (omega arith)
-sets-then l i (x ∷ xs) ys = ap (λ (z : ℕ). sets (sets (set l i x) (suc i) xs) z ys) (omega arith) ∙ sets-then (set l i x) (suc i) xs ys
-
 module _ {out out₁ out₂ : List ℕ} (t u : List ℕ) {n m : ℕ} where
   written-then : Written out t out₁ n → out₂ ≡ sets out₁ n u → m ≡ n + length u → Written out (t ++ u) out₂ m
   written-then w e f = record {
     size = f ∙ ap (λ (z : ℕ). z + length u) (w .size) ∙ sym (length-append t u);
-    bytes = e ∙ ap (λ (z : List ℕ). sets z n u) (w .bytes) ∙ ap (λ (z : ℕ). sets (sets out 0 t) z u) (let i : n ≡ 0 + length t = omega (arith, w .size) in i) ∙ sets-then out 0 t u;
+    bytes = e ∙ ap (λ (z : List ℕ). sets z n u) (w .bytes) ∙ ap (λ (z : ℕ). sets (sets out 0 t) z u) (let i : n ≡ 0 + length t = omega (arith, w .size) in i) ∙ sym (sets-append out 0 t u);
   }
 
 -- a text at the start of what is lent from a place on

@@ -1,6 +1,6 @@
 -- There is room for every answer, and what is printed is it.
 use mathlib.Core.Path.{_≡_, refl, ap, _∙_, subst}
-use mathlib.Core.List.{List, [], _∷_}
+use mathlib.Core.List.{List, _++_, append-assoc}
 use Prim.Native.Nat.{ℕ, _+_, _*_, _≤_}
 use native.Mathlib.Omega.{arith}
 use lib.ListN.{length}
@@ -11,9 +11,11 @@ use Rattle.expiration_index.specs.declared.answers.Count.{Count}
 use Rattle.expiring.specs.declared.expiring.Expiring.{Expiring}
 use Rattle.expiring.specs.Book.{heapOf, modelOf}
 use Rattle.expiring.specs.Calls.{HeapLength, DeadlinesHeld}
+use Rattle.text.specs.Text.{fill}
+use Rattle.text.specs.Writing.{Puts}
 use Rattle.text.proofs.Laws.{fill-size}
 use Rattle.session.specs.declared.answer.Counts.{Counts}
-use Rattle.session.specs.Answers.{lineFormat, lineNumbers, lineOf, Prints}
+use Rattle.session.specs.Answers.{lineFormat, lineNumbers, lineOf, Prints, headOf, tailOf}
 use Rattle.session.specs.declared.step.Session.the-variants as session
 use Rattle.session.specs.Session.{room, Written, Tells, numberIn}
 
@@ -38,10 +40,31 @@ pub line-size : (a : Answer) (c : Counts) → length (lineOf a c) ≤ room
 unfolding lineOf
 line-size a c = omega (arith, fill-size (lineFormat a) (lineNumbers a c), fits a c)
 
+-- a line is its parts
+pub line-parts : (a : Answer) (c : Counts) → headOf a ++ tailOf c ≡ lineOf a c
+unfolding lineOf headOf tailOf fill
+line-parts answer.Nothing c = refl
+line-parts (answer.Value v) c = simp append-assoc
+line-parts answer.Yes c = refl
+line-parts answer.No c = refl
+line-parts answer.Missing c = refl
+line-parts answer.Immortal c = refl
+line-parts answer.Expired c = refl
+line-parts (answer.Live l d) c = simp append-assoc
+line-parts (answer.Count n) c = simp append-assoc
+line-parts (answer.Due k d) c = simp append-assoc
+line-parts (answer.Item k v) c = simp append-assoc
+line-parts (answer.Rank n) c = simp append-assoc
+line-parts answer.Done c = refl
+line-parts (answer.Refused why) c = simp append-assoc
+
+-- an answer's head, where it is known which answer it is
+pub head-of : {out out′ : List ℕ} {n : ℕ} {a b : Answer} → a ≡ b → Puts out 0 (headOf b) out′ n → Puts out 0 (headOf a) out′ n
+head-of e p = rw e p
+
 module _ {out out′ : List ℕ} (a : Answer) (c : Counts) {n : ℕ} (enough : room ≤ length out) (p : Prints out a c out′ n) where
   pub printed : Written out (lineOf a c) out′ n
-  unfolding lineOf
-  printed = let h : length (lineOf a c) ≤ length out = omega (arith, enough, line-size a c) in record { size = p .ends h; bytes = p .written h }
+  printed = let h : 0 + length (lineOf a c) ≤ length out = omega (arith, enough, line-size a c) in record { size = omega (arith, p .ends h); bytes = p .written h }
 
 -- a book's answer, with its counts
 module _ {ws out out′ : List ℕ} {b : Expiring} (a : Answer) (d : ℕ) {n h l : ℕ} {entries held : Count} (enough : room ≤ length out) (p : Prints out a (record { discarded = d; heap = h; held = l }) out′ n) where

@@ -6,7 +6,7 @@ use Rattle.time.specs.Refusal.{numberOf}
 use Rattle.expiring.specs.declared.answers.Answer.{Answer}
 use Rattle.expiring.specs.declared.answers.Answer.the-variants as answer
 use Rattle.text.specs.Text.{bytes, fill}
-use Rattle.text.specs.Writing.{Writes}
+use Rattle.text.specs.Writing.{Puts}
 use Rattle.session.specs.declared.answer.Counts.{Counts}
 
 -- A, each 0 standing for a number. No form asks for an item or a rank.
@@ -54,4 +54,11 @@ lineOf a c = fill (lineFormat a) (lineNumbers a c)
 
 -- `print`
 abbrev pub Prints : List ℕ → Answer → Counts → List ℕ → ℕ → Type 0
-Prints out a c out′ r = Writes out (lineFormat a) (lineNumbers a c) out′ r
+Prints out a c out′ r = Puts out 0 (lineOf a c) out′ r
+
+-- its parts: up to the counts, and from them on
+unfoldable pub headOf : Answer → List ℕ
+headOf a = fill (bytes "(" ++ bytes (formatOf a)) (numbersOf a)
+
+unfoldable pub tailOf : Counts → List ℕ
+tailOf c = fill (bytes " (thrown 0) (heap 0) (held 0))\n") (c .discarded ∷ c .heap ∷ c .held ∷ [])

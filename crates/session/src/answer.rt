@@ -1,7 +1,8 @@
 // The printer: an answer's one text.
-ghost use Rattle.text.specs.Writing.{Writes};
-ghost use mathlib.Core.List.{[], _∷_};
-ghost use Rattle.session.specs.Answers.{Prints};
+ghost use mathlib.Core.List.{_++_};
+ghost use Rattle.text.specs.Text.{bytes, decimal};
+ghost use Rattle.text.specs.Writing.{Puts};
+ghost use Rattle.session.specs.Answers.{Prints, headOf, tailOf};
 use expiring::Answer;
 
 // Entries discarded by a call, and after it entries in the heap and deadlines held.
@@ -15,74 +16,61 @@ pub struct Counts {
 pub fn print(out: &mut [u8], answer: Answer, counts: Counts) -> usize
     ensures { λ r. ⌜ Prints (now (out .entry)) answer counts (now (out .exit)) r ⌝ }
 {
+    let at = head(out, answer);
+    tail(out, at, counts)
+}
+
+// The opening bracket and the answer itself.
+fn head(out: &mut [u8], answer: Answer) -> usize
+    ensures { λ r. ⌜ Puts (now (out .entry)) 0 (headOf answer) (now (out .exit)) r ⌝ }
+{
     match answer {
-        Answer::Nothing => bare(out, b"(none (thrown 0) (heap 0) (held 0))\n", counts),
-        Answer::Value(v) => one(
-            out,
-            b"((value 0) (thrown 0) (heap 0) (held 0))\n",
-            v,
-            counts,
-        ),
-        Answer::Yes => bare(out, b"(yes (thrown 0) (heap 0) (held 0))\n", counts),
-        Answer::No => bare(out, b"(no (thrown 0) (heap 0) (held 0))\n", counts),
-        Answer::Missing => bare(out, b"(missing (thrown 0) (heap 0) (held 0))\n", counts),
-        Answer::Immortal => bare(out, b"(immortal (thrown 0) (heap 0) (held 0))\n", counts),
-        Answer::Expired => bare(out, b"(expired (thrown 0) (heap 0) (held 0))\n", counts),
-        Answer::Live(ttl, deadline) => two(
-            out,
-            b"((live 0 0) (thrown 0) (heap 0) (held 0))\n",
-            ttl.0,
-            deadline.0,
-            counts,
-        ),
-        Answer::Count(n) => one(
-            out,
-            b"((count 0) (thrown 0) (heap 0) (held 0))\n",
-            n,
-            counts,
-        ),
-        Answer::Due(key, deadline) => two(
-            out,
-            b"((due 0 0) (thrown 0) (heap 0) (held 0))\n",
-            key,
-            deadline.0,
-            counts,
-        ),
-        Answer::Item(key, value) => two(
-            out,
-            b"((item 0 0) (thrown 0) (heap 0) (held 0))\n",
-            key,
-            value,
-            counts,
-        ),
-        Answer::Rank(n) => one(out, b"((rank 0) (thrown 0) (heap 0) (held 0))\n", n, counts),
-        Answer::Done => bare(out, b"(done (thrown 0) (heap 0) (held 0))\n", counts),
-        Answer::Refused(why) => one(
-            out,
-            b"((refused 0) (thrown 0) (heap 0) (held 0))\n",
-            why.number(),
-            counts,
-        ),
+        Answer::Nothing => text::put(out, 0, b"(none"),
+        Answer::Value(v) => one(out, b"((value ", v),
+        Answer::Yes => text::put(out, 0, b"(yes"),
+        Answer::No => text::put(out, 0, b"(no"),
+        Answer::Missing => text::put(out, 0, b"(missing"),
+        Answer::Immortal => text::put(out, 0, b"(immortal"),
+        Answer::Expired => text::put(out, 0, b"(expired"),
+        Answer::Live(ttl, deadline) => two(out, b"((live ", ttl.0, deadline.0),
+        Answer::Count(n) => one(out, b"((count ", n),
+        Answer::Due(key, deadline) => two(out, b"((due ", key, deadline.0),
+        Answer::Item(key, value) => two(out, b"((item ", key, value),
+        Answer::Rank(n) => one(out, b"((rank ", n),
+        Answer::Done => text::put(out, 0, b"(done"),
+        Answer::Refused(why) => one(out, b"((refused ", why.number()),
     }
 }
 
-fn bare(out: &mut [u8], format: &[u8], counts: Counts) -> usize
-    ensures { λ r. ⌜ Writes (now (out .entry)) (now (format .entry)) (counts .discarded ∷ counts .heap ∷ counts .held ∷ []) (now (out .exit)) r ⌝ }
+fn one(out: &mut [u8], name: &[u8], number: u64) -> usize
+    ensures { λ r. ⌜ Puts (now (out .entry)) 0 (now (name .entry) ++ (decimal number ++ bytes ")")) (now (out .exit)) r ⌝ }
 {
-    let numbers = [counts.discarded, counts.heap, counts.held];
-    text::write(out, format, &numbers)
+    let at = field(out, 0, name, number);
+    text::put(out, at, b")")
 }
 
-fn one(out: &mut [u8], format: &[u8], number: u64, counts: Counts) -> usize
-    ensures { λ r. ⌜ Writes (now (out .entry)) (now (format .entry)) (number ∷ counts .discarded ∷ counts .heap ∷ counts .held ∷ []) (now (out .exit)) r ⌝ }
+fn two(out: &mut [u8], name: &[u8], first: u64, second: u64) -> usize
+    ensures { λ r. ⌜ Puts (now (out .entry)) 0 (now (name .entry) ++ (decimal first ++ (bytes " " ++ (decimal second ++ bytes ")")))) (now (out .exit)) r ⌝ }
 {
-    let numbers = [number, counts.discarded, counts.heap, counts.held];
-    text::write(out, format, &numbers)
+    let at = field(out, 0, name, first);
+    let at = field(out, at, b" ", second);
+    text::put(out, at, b")")
 }
 
-fn two(out: &mut [u8], format: &[u8], first: u64, second: u64, counts: Counts) -> usize
-    ensures { λ r. ⌜ Writes (now (out .entry)) (now (format .entry)) (first ∷ second ∷ counts .discarded ∷ counts .heap ∷ counts .held ∷ []) (now (out .exit)) r ⌝ }
+// The counts, the closing bracket and the newline.
+fn tail(out: &mut [u8], at: usize, counts: Counts) -> usize
+    ensures { λ r. ⌜ Puts (now (out .entry)) at (tailOf counts) (now (out .exit)) r ⌝ }
 {
-    let numbers = [first, second, counts.discarded, counts.heap, counts.held];
-    text::write(out, format, &numbers)
+    let at = field(out, at, b" (thrown ", counts.discarded);
+    let at = field(out, at, b") (heap ", counts.heap);
+    let at = field(out, at, b") (held ", counts.held);
+    text::put(out, at, b"))\n")
+}
+
+// A text, and a number behind it.
+fn field(out: &mut [u8], at: usize, name: &[u8], number: u64) -> usize
+    ensures { λ r. ⌜ Puts (now (out .entry)) at (now (name .entry) ++ decimal number) (now (out .exit)) r ⌝ }
+{
+    let at = text::put(out, at, name);
+    text::put_number(out, at, number)
 }

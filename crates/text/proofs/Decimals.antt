@@ -25,6 +25,13 @@ last k n = go (ltb n 10) refl
     go true h = only (ltb-true n 10 h) (simp h)
     go false h = after (ltb-false n 10 h) (simp h)
 
+pub one-digit : (n : ℕ) → n < 10 → decimal n ≡ digit n ∷ []
+one-digit n small = go (last 19 n)
+  where
+    go : Last 19 n → decimal n ≡ digit n ∷ []
+    go (only h e) = e
+    go (after h e) = absurd (omega arith)
+
 -- ---- how many
 pub size-le : (k n : ℕ) → length (decimalIn k n) ≤ k
 unfolding decimalIn

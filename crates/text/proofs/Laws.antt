@@ -1,19 +1,19 @@
--- What the crates above cite: reading is the way back from writing, and how long a text is.
-use mathlib.Core.Path.{_≡_, refl, sym}
+-- What the crates above cite: reading is the way back from writing, how long a text is, and one text behind another.
+use mathlib.Core.Path.{_≡_, refl}
 use mathlib.Core.Bool.{true, false}
 use mathlib.Core.List.{List, [], _∷_, _++_}
 use mathlib.Core.Option.{some}
 use Prim.Native.Nat.{ℕ, _+_, _^_, _<_, _≤_}
 use native.Mathlib.Omega.{arith}
-use lib.ListN.{length, getD, take, drop}
-use lib.Seq.{sets, sets-eq, take-at}
+use lib.ListN.{length, getD}
+use lib.Seq.{sets}
 use Rattle.text.specs.Text.{decimal, fill}
 use Rattle.text.specs.Reading.{isDigit, readNumber, readIn}
-use Rattle.text.specs.Writing.{Writes}
 use Rattle.text.proofs.Decimals.{size-le}
 use Rattle.text.proofs.Back.{slots, parted, number-back, format-back}
 use Rattle.text.proofs.Texts.{Found, zeros-small, found}
 pub use Rattle.text.proofs.Fills.{fill-size}
+pub use Rattle.text.proofs.Stores.{sets-append, puts-then}
 
 -- ---- what is written is read back
 pub number-read : (v c : ℕ) (s : List ℕ) → v < 2 ^ 64 → isDigit c ≡ false → readNumber (decimal v ++ (c ∷ s)) ≡ some (v, c ∷ s)
@@ -40,7 +40,3 @@ module _ (f s ns rest : List ℕ) (e : readIn f s ≡ some (ns, rest)) where
 -- ---- how long a text is
 pub decimal-size : (n : ℕ) → n < 2 ^ 64 → length (decimal n) ≤ 20
 decimal-size n h = size-le 20 n
-
--- ---- what stands in the slice after writing, where there was room
-pub write-text : {out f ns out′ : List ℕ} {r : ℕ} → Writes out f ns out′ r → length (fill f ns) ≤ length out → take r out′ ≡ fill f ns
-write-text {out} {f} {ns} {out′} {r} w room = rw (w .written room) (rw (sets-eq (fill f ns) out 0 (omega arith)) (take-at (fill f ns) (drop (0 + length (fill f ns)) out) r (sym (w .ends room))))

@@ -11,7 +11,7 @@ use lib.Dec.{ltb, leb, eqb}
 use Rattle.text.specs.Text.{digit, decimalIn, decimal}
 use Rattle.text.specs.Reading.{isDigit, readOn, readNumber}
 use Rattle.text.proofs.Places.{is-digit}
-use Rattle.text.proofs.Decimals.{Last, only, after, last, same-digits}
+use Rattle.text.proofs.Decimals.{Last, only, after, last, one-digit, same-digits}
 
 -- ---- from the number
 on-next : (v d : ℕ) (r : List ℕ) → d < 10 → v * 10 + d < 2 ^ 64 → readOn v (digit d ∷ r) ≡ readOn (v * 10 + d) r
@@ -56,13 +56,9 @@ digit-bounds c h =
     (leb-true 48 c lo, leb-true c 57 hi)
 
 decimal-one : (c : ℕ) → 48 ≤ c → c ≤ 57 → decimal (c - 48) ≡ c ∷ []
-decimal-one c lo hi = go (last 19 (c - 48))
-  where
-    go : Last 19 (c - 48) → decimal (c - 48) ≡ c ∷ []
-    go (only h e) =
-        let d : digit (c - 48) ≡ c = omega arith in
-        e ∙ rw d refl
-    go (after h e) = absurd (omega arith)
+decimal-one c lo hi =
+    let d : digit (c - 48) ≡ c = omega arith in
+    one-digit (c - 48) (omega arith) ∙ rw d refl
 
 -- one digit more
 decimal-next : (v c : ℕ) → 0 < v → 48 ≤ c → c ≤ 57 → v * 10 + (c - 48) < 2 ^ 64 → decimal (v * 10 + (c - 48)) ≡ decimal v ++ (c ∷ [])

@@ -1,14 +1,15 @@
 -- Runs of stores, one after another.
-use mathlib.Core.Path.{_≡_, refl, ap, _∙_}
+use mathlib.Core.Path.{_≡_, refl, sym, ap, _∙_}
 use mathlib.Core.List.{List, [], _∷_, _++_}
 use Prim.Native.Nat.{ℕ, suc, _+_, _-_, _/_, _%_, _<_, _≤_}
 use native.Mathlib.Nat.{add-suc, suc-add, add-zero}
+use native.Mathlib.Numerals.{add-one}
 use native.Mathlib.Omega.{arith}
-use lib.ListN.{length, set}
-use lib.Seq.{sets, length-sets, set-comm}
+use lib.ListN.{length, length-append, length-set, getD, drop, set, drop-of-length-le}
+use lib.Seq.{sets, length-sets, set-comm, drop-cons}
 use Rattle.text.specs.Text.{digit, decimal}
-use Rattle.text.specs.Writing.{lastDigits, WritesNumber}
-use Rattle.text.proofs.Decimals.{all-digits, length-last}
+use Rattle.text.specs.Writing.{lastDigits, Puts}
+use Rattle.text.proofs.Decimals.{one-digit, all-digits, length-last}
 
 -- a store past a run may come before it
 pub sets-set : (l : List ℕ) (i j a : ℕ) (vs : List ℕ) → i + length vs ≤ j → set (sets l i vs) j a ≡ sets (set l j a) i vs
@@ -40,13 +41,49 @@ no-digit l at i n h =
     let p : i - at ≡ 0 = omega arith in
     rw p refl
 
--- ---- a number is written
-pub writes-number : (out : List ℕ) (at n : ℕ) (out′ : List ℕ) (count : ℕ) → count ≡ length (decimal n) → at + count ≤ length out → out′ ≡ sets out at (lastDigits count n) → WritesNumber out at n out′ (at + count)
-writes-number out at n out′ count e room h = record {
-  written = λ _. (ap (λ (k : ℕ). at + k) e, h ∙ rw e (rw (all-digits 20 n) refl));
+-- ---- one text behind another
+pub puts-then : {out out₁ out₂ : List ℕ} {at m n : ℕ} {t u : List ℕ} → Puts out at t out₁ m → Puts out₁ m u out₂ n → Puts out at (t ++ u) out₂ n
+puts-then {out} {out₁} {out₂} {at} {m} {n} {t} {u} p q = record {
+  ends = λ h. omega (arith, both, p .ends (first h), q .ends (second h));
+  written = λ h. q .written (second h) ∙ rw (p .written (first h)) (rw (p .ends (first h)) (sym (sets-append out at t u)));
+  within = omega (arith, q .within, p .size);
+  size = q .size ∙ p .size;
+}
+  where
+    both : length (t ++ u) ≡ length t + length u
+    both = length-append t u
+
+    first : at + length (t ++ u) ≤ length out → at + length t ≤ length out
+    first h = omega (arith, both)
+
+    second : at + length (t ++ u) ≤ length out → m + length u ≤ length out₁
+    second h = omega (arith, both, p .ends (first h), p .size)
+
+pub no-room : (out : List ℕ) (at : ℕ) (t : List ℕ) → length out < at + length t → Puts out at t out (length out)
+no-room out at t full = record { ends = λ h. absurd (omega arith); written = λ h. absurd (omega arith); within = omega arith; size = refl }
+
+-- ---- a text, a byte at a time: the rest makes of the slice what the whole does
+pub byte-on : (l : List ℕ) (at i : ℕ) (t : List ℕ) → i < length t → sets l (at + i) (drop i t) ≡ sets (set l (at + i) (getD t i 0)) (at + (i + 1)) (drop (i + 1) t)
+byte-on l at i t h =
+    let e : at + (i + 1) ≡ suc (at + i) = omega arith in
+    rw e (rw (add-one i) (rw (drop-cons t i 0 h) refl))
+
+pub puts-text : (out : List ℕ) (at : ℕ) (t out′ : List ℕ) (i : ℕ) → at + length t ≤ length out → i ≤ length t → length t ≤ i → length out′ ≡ length out → sets out′ (at + i) (drop i t) ≡ sets out at t → Puts out at t out′ (at + i)
+puts-text out at t out′ i room passed all size e = record {
+  ends = λ _. omega arith;
+  written = λ _. rw (drop-of-length-le t all) at e;
+  within = omega arith;
+  size = size;
+}
+
+-- ---- a number
+pub puts-number : (out : List ℕ) (at n : ℕ) (out′ : List ℕ) (count : ℕ) → count ≡ length (decimal n) → at + count ≤ length out → out′ ≡ sets out at (lastDigits count n) → Puts out at (decimal n) out′ (at + count)
+puts-number out at n out′ count e room h = record {
+  ends = λ _. ap (λ (k : ℕ). at + k) e;
+  written = λ _. h ∙ rw e (rw (all-digits 20 n) refl);
   within = room;
   size = ap length h ∙ length-sets out at (lastDigits count n);
 }
 
-pub no-room : (out : List ℕ) (at n count : ℕ) → count ≡ length (decimal n) → length out - at < count → WritesNumber out at n out (length out)
-no-room out at n count e full = record { written = λ h. absurd (omega arith); within = omega arith; size = refl }
+pub puts-digit : (out : List ℕ) (at n : ℕ) → n < 10 → at < length out → Puts out at (decimal n) (set out at (digit n)) (at + 1)
+puts-digit out at n small room = rw (one-digit n small) (record { ends = λ _. refl; written = λ _. refl; within = omega arith; size = length-set out at (digit n) })

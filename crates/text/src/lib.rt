@@ -10,4 +10,5 @@ mod writer;
 
 pub use reader::Fields;
 pub use reader::read;
-pub use writer::write;
+pub use writer::put;
+pub use writer::put_number;

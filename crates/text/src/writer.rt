@@ -3,7 +3,7 @@ ghost use mathlib.Core.Path.{_≡_};
 ghost use Prim.Native.Nat.{_+_, _≤_};
 ghost use lib.ListN.{length};
 ghost use Rattle.text.specs.Text.{decimal};
-ghost use Rattle.text.specs.Writing.{Writes, WritesNumber, Spells};
+ghost use Rattle.text.specs.Writing.{Spells, Puts};
 
 // How many digits a number has.
 fn places(n: u64) -> usize
@@ -32,39 +32,39 @@ fn spell(out: &mut [u8], at: usize, count: usize, n: u64)
     }
 }
 
-// Writes a number, and says where its text ends; where there is no room for it, it writes nothing and says where the room does.
-fn write_number(out: &mut [u8], at: usize, n: u64) -> usize
-    requires { ⌜ at ≤ length (now out) ⌝ }
-    ensures { λ r. ⌜ WritesNumber (now (out .entry)) at n (now (out .exit)) r ⌝ }
+// Writes a text at a place, and says where it ends. Where there is no room for it, it writes nothing and says where the room ends.
+pub fn put(out: &mut [u8], at: usize, text: &[u8]) -> usize
+    ensures { λ r. ⌜ Puts (now (out .entry)) at (now (text .entry)) (now (out .exit)) r ⌝ }
 {
+    if out.len() < at {
+        return out.len();
+    }
+    if out.len() - at < text.len() {
+        return out.len();
+    }
+    let mut i = 0;
+    while i < text.len() {
+        out[at + i] = text[i];
+        i += 1;
+    }
+    at + i
+}
+
+// Writes a number likewise. Most have one digit.
+pub fn put_number(out: &mut [u8], at: usize, n: u64) -> usize
+    ensures { λ r. ⌜ Puts (now (out .entry)) at (decimal n) (now (out .exit)) r ⌝ }
+{
+    if out.len() <= at {
+        return out.len();
+    }
+    if n < 10 {
+        out[at] = b'0' + n as u8;
+        return at + 1;
+    }
     let count = places(n);
     if out.len() - at < count {
         return out.len();
     }
     spell(out, at, count, n);
     at + count
-}
-
-// Writes the text of a format and its numbers at the start of what is lent, and says how long it is. Where there is no room
-// for it, what is written is free, but no more than there is room.
-pub fn write(out: &mut [u8], format: &[u8], numbers: &[u64]) -> usize
-    ensures { λ r. ⌜ Writes (now (out .entry)) (now (format .entry)) (now (numbers .entry)) (now (out .exit)) r ⌝ }
-{
-    let mut at = 0;
-    let mut used = 0;
-    let mut i = 0;
-    while i < format.len() {
-        if out.len() <= at {
-            return out.len();
-        }
-        if format[i] == b'0' && used < numbers.len() {
-            at = write_number(out, at, numbers[used]);
-            used += 1;
-        } else {
-            out[at] = format[i];
-            at += 1;
-        }
-        i += 1;
-    }
-    at
 }
