@@ -1,5 +1,5 @@
 -- Bytes moved to the start, one after the other.
-use mathlib.Core.Path.{_≡_, refl, sym, _∙_}
+use mathlib.Core.Path.{_≡_, refl, _∙_}
 use mathlib.Core.Logic.{_≢_}
 use mathlib.Core.List.{List}
 use Prim.Native.Nat.{ℕ, _+_, _<_, _≤_}
@@ -21,8 +21,8 @@ pub moved-on : (bytes : List ℕ) (start : ℕ) (bytes′ : List ℕ) (i : ℕ) 
 moved-on bytes start bytes′ i m h = record {
   size = rw length-set (m .size);
   front =
-    let here : i < length bytes′ = omega (arith, m .size) in
-    let there : i < length (drop start bytes) = simp length-drop (omega arith) in
-    rw (add-one, take-suc-set, take-suc (drop start bytes) i 0, getD-drop, m .front, m .rest (start + i) (omega arith));
-  rest = λ j l. let other : j ≢ i = omega arith in getD-set-other bytes′ i j _ 0 other ∙ m .rest j (omega arith)
-  }
+      let here : i < length bytes′ = omega (arith, m .size) in
+      let there : i < length (drop start bytes) = simp length-drop (omega arith) in
+      rw (add-one, take-suc-set, take-suc (drop start bytes) i 0, getD-drop, m .front, m .rest (start + i) (omega arith));
+  rest = λ j l. let other : j ≢ i = omega arith in getD-set-other bytes′ i j _ 0 other ∙ m .rest j (omega arith);
+}
