@@ -4,7 +4,7 @@
 // end of a pipe gets it.
 ghost use mathlib.Core.Path.{_≡_};
 ghost use Prim.Native.Nat.{_+_, _≤_, min};
-ghost use lib.ListN.{length};
+ghost use lib.ListN.{length, take};
 ghost use Rattle.tube_book.specs.Keeping.{isEnded, Keeps};
 use libc::STDIN_FILENO;
 use libc::STDOUT_FILENO;
@@ -84,6 +84,7 @@ fn answer_block(reader: Reader, words: &mut [u64], bytes: &mut [u8], out: &mut [
 fn read_behind(bytes: &mut [u8], kept: usize) -> usize
     requires { ⌜ kept ≤ length (now bytes) ⌝ }
     ensures { λ r. ⌜ kept + r ≤ length (now (bytes .entry)) ⌝ }
+    ensures { λ _. ⌜ take kept (now (bytes .exit)) ≡ take kept (now (bytes .entry)) ⌝ }
 {
     let rest = &mut bytes[kept..];
     let got = libc::read(STDIN_FILENO, rest);

@@ -1,3 +1,4 @@
+-- What `step` writes lies within what is lent for it.
 use mathlib.Core.Path.{sym}
 use native.Mathlib.Omega.{arith}
 use lib.Seq.{length-take-le}
