@@ -114,11 +114,11 @@ third-of answer.Done d = refl
 third-of (answer.Refused why) d = refl
 
 module _ (out : List ℕ) (k : ℕ) (a : Answer) (d : ℕ) (h : 4 * k + 4 ≤ length out) where
-  told-then : toldIn (withAnswer out k (ofAnswer a d)) (suc k) ≡ toldIn out k ++ (ofAnswer a 0 ∷ [])
+  pub told-then : toldIn (withAnswer out k (ofAnswer a d)) (suc k) ≡ toldIn out k ++ (ofAnswer a 0 ∷ [])
   unfolding toldIn
   told-then = rw (told-kept out k k (ofAnswer a d) (omega arith), code-at out k (ofAnswer a d) h, first-at out k (ofAnswer a d) h, second-at out k (ofAnswer a d) h, told-of a d) refl
 
-  discarded-then : discardedIn (withAnswer out k (ofAnswer a d)) (suc k) ≡ discardedIn out k + d
+  pub discarded-then : discardedIn (withAnswer out k (ofAnswer a d)) (suc k) ≡ discardedIn out k + d
   unfolding discardedIn
   discarded-then = rw (discarded-kept out k k (ofAnswer a d) (omega arith), third-at out k (ofAnswer a d) h, third-of a d) refl
 

@@ -32,13 +32,16 @@
 //
 // The numbers are the list's (capacity, len, refill_in), the index's (limit, len and refill_in of its map, entries, seq,
 // factor), 1 for a default lifetime and 0 for none, its ticks, and the expirations. Any number but 0 is read as 1, and the ticks
-// of none as 0; so they are handed back.
+// of none as 0; so they are handed back. How numbers and answers stand in words is public, for functions of a single call.
 mod answer;
 mod book;
 mod call;
 mod list;
 mod numbers;
 
+pub use answer::of_answer;
 pub use book::expiring_check;
 pub use book::expiring_open;
 pub use list::expiring_replay;
+pub use numbers::book_in;
+pub use numbers::store_book;

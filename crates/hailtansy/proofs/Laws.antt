@@ -1,0 +1,101 @@
+-- What a function of this crate does is what the book's call does: the numbers that are read back are those that were stored, and
+-- without room nothing is touched. A look leaves the model as it is.
+use mathlib.Core.Path.{_≡_, refl}
+use mathlib.Core.List.{List}
+use Prim.Native.Nat.{ℕ, _+_, _-_, _^_, _<_, _≤_, min}
+use native.Mathlib.Omega.{arith}
+use lib.ListN.{length}
+use Rattle.lazy_heap.specs.Model.{Heap}
+use Rattle.expiring.specs.declared.answers.Reply.{Reply}
+use Rattle.expiring.specs.declared.expiring.Expiring.{Expiring}
+use Rattle.expiring.specs.Model.{Book, Call, contains, peek, ttlStatus, recencyRank, liveLen, expirations, peekLru, changeOf, pairsAfter, replacedBy, removedBy, storedAfter, expiredBy, badNanos, refusalOf, accepted, bookAfter}
+use Rattle.expiring.specs.Discards.{heapAfter, heapBy}
+use Rattle.expiring.specs.Calls.{Following}
+use Rattle.replay.specs.Runs.{withAnswer}
+use Rattle.replay_expiring.specs.Numbers.{bookIn, withBook}
+use Rattle.replay_expiring.specs.Runs.{ofReply}
+use Rattle.replay_expiring.proofs.Laws.{book-stored, book-past, book-size}
+use Rattle.hailtansy.specs.Calls.{Room, tickOf, told, Called, answered, Looked}
+
+module _ {ns out : List ℕ} where
+  few-numbers : length ns < 12 → Room ns out → ⊥
+  few-numbers h room = omega (arith, room .numbers)
+
+  few-words : length out < 4 → Room ns out → ⊥
+  few-words h room = omega (arith, room .answer)
+
+-- ---- a call that may change the book
+not-called : {ns ws out : List ℕ} {t : ℕ} {c : Call} → (Room ns out → ⊥) → Called ns ws t c out ns ws out 0
+not-called none = record { few = λ _. (refl, refl, refl, refl); ran = λ room. absurd (none room); reply = λ room. absurd (none room); size = refl; past = λ _ _. refl }
+
+module _ {ns ws out : List ℕ} {t : ℕ} {c : Call} where
+  pub no-numbers : length ns < 12 → Called ns ws t c out ns ws out 0
+  no-numbers h = not-called (few-numbers h)
+
+  pub no-words : length out < 4 → Called ns ws t c out ns ws out 0
+  no-words h = not-called (few-words h)
+
+  pub called : {ns′ ws′ out′ : List ℕ} {r : Reply} → 12 ≤ length ns → 4 ≤ length out → Following ws (bookIn ns) (tickOf t) c ws′ r → ns′ ≡ withBook ns (r .book) → out′ ≡ withAnswer out 0 (ofReply r) → Called ns ws t c out ns′ ws′ out′ 1
+  called {r = r} h g o e q = rw (e, q) (record {
+    few = λ none. absurd (none (record { numbers = h; answer = g }));
+    ran = λ _. refl;
+    reply = λ _. rw (book-stored ns (r .book) h) (told o);
+    size = book-size ns (r .book);
+    past = λ j l. book-past ns (r .book) j l;
+  })
+
+-- ---- a look
+pub data Look : Call → Type 0 where
+  at-contains : {k : ℕ} → Look (contains k)
+  at-peek : {k : ℕ} → Look (peek k)
+  at-ttl-status : {k : ℕ} → Look (ttlStatus k)
+  at-recency-rank : {k : ℕ} → Look (recencyRank k)
+  at-live-len : Look liveLen
+  at-expirations : Look expirations
+  at-peek-lru : Look peekLru
+
+same : (p : Book) → p .expirations < 2 ^ 64 → record { capacity = p .capacity; limit = p .limit; lifetime = p .lifetime; stored = p .stored; deadlines = p .deadlines; expirations = min (p .expirations + 0) (2 ^ 64 - 1); replaced = p .replaced + 0; removed = p .removed + 0 } ≡ p
+same p h =
+    let e : min (p .expirations + 0) (2 ^ 64 - 1) ≡ p .expirations = omega arith in
+    let r : p .replaced + 0 ≡ p .replaced = omega arith in
+    let m : p .removed + 0 ≡ p .removed = omega arith in
+    rw (e, r, m)
+
+model-stays : {c : Call} (t : ℕ) → Look c → (p : Book) → p .expirations < 2 ^ 64 → bookAfter (tickOf t) c p ≡ p
+unfolding bookAfter refusalOf badNanos changeOf accepted storedAfter pairsAfter replacedBy removedBy expiredBy
+model-stays t at-contains p h = same p h
+model-stays t at-peek p h = same p h
+model-stays t at-ttl-status p h = same p h
+model-stays t at-recency-rank p h = same p h
+model-stays t at-live-len p h = same p h
+model-stays t at-expirations p h = same p h
+model-stays t at-peek-lru p h = same p h
+
+heap-stays : {c : Call} (t : ℕ) → Look c → (p : Book) (h : Heap) → heapBy (tickOf t) c p h ≡ h
+unfolding heapBy heapAfter refusalOf badNanos changeOf
+heap-stays t at-contains p h = refl
+heap-stays t at-peek p h = refl
+heap-stays t at-ttl-status p h = refl
+heap-stays t at-recency-rank p h = refl
+heap-stays t at-live-len p h = refl
+heap-stays t at-expirations p h = refl
+heap-stays t at-peek-lru p h = refl
+
+module _ {ns ws out : List ℕ} {t : ℕ} {c : Call} (look : Look c) where
+  not-looked : (Room ns out → ⊥) → Looked ns ws t c out out 0
+  not-looked none = record { few = λ _. (refl, refl); ran = λ room. absurd (none room); reply = λ room. absurd (none room); model = model-stays t look; heap = heap-stays t look }
+
+  pub unseen-numbers : length ns < 12 → Looked ns ws t c out out 0
+  unseen-numbers h = not-looked (few-numbers h)
+
+  pub unseen-words : length out < 4 → Looked ns ws t c out out 0
+  unseen-words h = not-looked (few-words h)
+
+  pub looked : {out′ : List ℕ} {r : Reply} → 12 ≤ length ns → 4 ≤ length out → Following ws (bookIn ns) (tickOf t) c ws r → out′ ≡ withAnswer out 0 (ofReply r) → Looked ns ws t c out out′ 1
+  looked h g o q = rw q (record {
+    few = λ none. absurd (none (record { numbers = h; answer = g }));
+    ran = λ _. refl;
+    reply = λ _. answered o;
+    model = model-stays t look;
+    heap = heap-stays t look;
+  })
