@@ -48,7 +48,7 @@ impl Session {
             Session::Waiting => first(words, form::parse(line), out),
             Session::Open(book) => next(book, words, form::parse(line), out),
             Session::Ended => Stepped {
-                session: Session::Ended,
+                session: self,
                 written: 0,
             },
         }
