@@ -1,4 +1,5 @@
 pub mod Wholes
+pub mod Pieces
 pub mod Formats
 pub mod Texts
 pub mod Spellings

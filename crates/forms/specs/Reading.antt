@@ -1,15 +1,15 @@
 -- What the parser's steps come to. That this reads each form from its text, and nothing else, is shown in proofs/.
 use mathlib.Core.Path.{_≡_}
-use mathlib.Core.Bool.{cond}
-use mathlib.Core.List.{List, [], _∷_}
+use mathlib.Core.Bool.{true, cond}
+use mathlib.Core.List.{List, [], _∷_, _++_}
 use mathlib.Core.Option.{Option, none, some}
 use Prim.Native.Nat.{ℕ}
 use Prim.Native.String.{String}
 use lib.Dec.{ltb, eqb}
 use lib.ListN.{length, getD, drop}
-use Rattle.text.specs.declared.reader.Fields.{Fields}
+use Rattle.text.specs.declared.number.Number.{Number}
 use Rattle.text.specs.Text.{bytes}
-use Rattle.text.specs.Reading.{readIn}
+use Rattle.text.specs.Reading.{readFrom, readIn, plain}
 use Rattle.forms.specs.declared.form.Call.the-variants as call
 use Rattle.forms.specs.declared.form.Form.{Form}
 use Rattle.forms.specs.declared.form.Form.the-variants as form
@@ -23,12 +23,12 @@ only (some (ns, c ∷ s)) = none
 abbrev pub whole : List ℕ → List ℕ → Option (List ℕ)
 whole f s = only (readIn f s)
 
-abbrev pub numbersIn : Fields → Option (List ℕ)
-numbersIn r = cond (r .«is_match») (some (r .numbers)) none
+-- a call's only number, with its name before it and two brackets behind it
+abbrev pub numbersIn : Number → Option (List ℕ)
+numbersIn r = cond (r .«is_number») (some (r .value ∷ 0 ∷ 0 ∷ 0 ∷ 0 ∷ [])) none
 
-pub record ReadsWhole (line : List ℕ) (at : ℕ) (f : List ℕ) (r : Fields) : Type 0 where
-  pub numbers : numbersIn r ≡ whole f (drop at line)
-  pub size : length (r .numbers) ≡ 5
+pub record ReadsOnly (line : List ℕ) (at : ℕ) (name : List ℕ) (r : Number) : Type 0 where
+  pub numbers : plain name ≡ true → numbersIn r ≡ whole (name ++ bytes "0))") (drop at line)
 
 -- ---- calls, from their name on: the first format that fits
 abbrev pub orElse : Option (List ℕ) → (List ℕ → Form) → Form → Form
@@ -49,6 +49,16 @@ fourth ns = getD ns 3 0
 
 abbrev pub fifth : List ℕ → ℕ
 fifth ns = getD ns 4 0
+
+-- after the key, or the key and the value
+unfoldable pub putWithTtlIn : ℕ → ℕ → ℕ → List ℕ → Form
+putWithTtlIn t k v s = orElse (only (readFrom 2 (k ∷ v ∷ 0 ∷ 0 ∷ 0 ∷ []) (bytes " (ttl 0 0)))") s)) (λ ns. form.At t (call.PutWithTtl (first ns) (second ns) (third ns) (fourth ns))) form.Nothing
+
+unfoldable pub putOn : ℕ → ℕ → List ℕ → Form
+putOn t k s =
+    orElse (only (readFrom 1 (k ∷ 0 ∷ 0 ∷ 0 ∷ 0 ∷ []) (bytes " 0 (ttl 0 0)))") s))
+    (λ ns. form.At t (call.PutWithTtl (first ns) (second ns) (third ns) (fourth ns)))
+    (orElse (only (readFrom 1 (k ∷ 0 ∷ 0 ∷ 0 ∷ 0 ∷ []) (bytes " 0))") s)) (λ ns. form.At t (call.Put (first ns) (second ns))) form.Nothing)
 
 unfoldable pub putIn : ℕ → List ℕ → Form
 putIn t s =
@@ -95,6 +105,10 @@ byLetter c t s =
 unfoldable pub callIn : ℕ → List ℕ → Form
 callIn t [] = form.Nothing
 callIn t (c ∷ s) = byLetter c t (c ∷ s)
+
+-- after the first sequence number
+unfoldable pub bookWithTtlIn : ℕ → ℕ → ℕ → List ℕ → Form
+bookWithTtlIn c d n s = orElse (only (readFrom 3 (c ∷ d ∷ n ∷ 0 ∷ 0 ∷ []) (bytes " (ttl 0 0))") s)) (λ ns. form.BookWithTtl (first ns) (second ns) (third ns) (fourth ns) (fifth ns)) form.Nothing
 
 unfoldable pub bookIn : List ℕ → Form
 bookIn s =

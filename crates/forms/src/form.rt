@@ -2,8 +2,8 @@
 ghost use mathlib.Core.Path.{_≡_};
 ghost use lib.ListN.{drop};
 ghost use Rattle.forms.specs.Forms.{Reads};
-ghost use Rattle.forms.specs.Reading.{ReadsWhole, getIn, statusIn, ttlIn, hasIn, liveIn, clearIn, putIn, dropIn, callIn, bookIn};
-use text::Fields;
+ghost use Rattle.forms.specs.Reading.{ReadsOnly, bookIn, bookWithTtlIn, callIn, putIn, putOn, putWithTtlIn, getIn, statusIn, ttlIn, dropIn, hasIn, liveIn, clearIn};
+use text::Number;
 
 // What is asked of a book, with its numbers; a lifetime is seconds and nanoseconds.
 pub enum Call {
@@ -39,37 +39,52 @@ pub fn parse(line: &[u8]) -> Form
     if 200 < line.len() {
         return Form::Nothing;
     }
-    let at = text::read(line, 0, b"(at 0 (");
-    if at.is_match {
-        let numbers = at.numbers;
-        return call_at(line, at.end, numbers[0]);
+    let tick = text::number_after(line, 0, b"(at ");
+    if !tick.is_number {
+        return book(line);
     }
-    book(line)
-}
-
-// What a format finds in all the rest of a line.
-fn whole(line: &[u8], at: usize, format: &[u8]) -> Fields
-    ensures { λ r. ⌜ ReadsWhole (now (line .entry)) at (now (format .entry)) r ⌝ }
-{
-    let mut fields = text::read(line, at, format);
-    if fields.end < line.len() {
-        fields.is_match = false;
+    let end = tick.end;
+    if !text::starts(line, end, b" (") {
+        return book(line);
     }
-    fields
+    call_at(line, end + 2, tick.value)
 }
 
 fn book(line: &[u8]) -> Form
     ensures { λ r. ⌜ r ≡ bookIn (now (line .entry)) ⌝ }
 {
-    let plain = whole(line, 0, b"(book 0 0 0)");
-    if plain.is_match {
-        let n = plain.numbers;
-        return Form::Book(n[0], n[1], n[2]);
+    let capacity = text::number_after(line, 0, b"(book ");
+    if !capacity.is_number {
+        return Form::Nothing;
     }
-    let timed = whole(line, 0, b"(book 0 0 0 (ttl 0 0))");
-    if timed.is_match {
-        let n = timed.numbers;
-        return Form::BookWithTtl(n[0], n[1], n[2], n[3], n[4]);
+    let limit = text::number_after(line, capacity.end, b" ");
+    if !limit.is_number {
+        return Form::Nothing;
+    }
+    let seq = text::number_after(line, limit.end, b" ");
+    if !seq.is_number {
+        return Form::Nothing;
+    }
+    if text::ends(line, seq.end, b")") {
+        return Form::Book(capacity.value, limit.value, seq.value);
+    }
+    book_with_ttl(line, seq.end, capacity.value, limit.value, seq.value)
+}
+
+// From a book's first sequence number on.
+fn book_with_ttl(line: &[u8], at: usize, capacity: u64, limit: u64, seq: u64) -> Form
+    ensures { λ r. ⌜ r ≡ bookWithTtlIn capacity limit seq (drop at (now (line .entry))) ⌝ }
+{
+    let secs = text::number_after(line, at, b" (ttl ");
+    if !secs.is_number {
+        return Form::Nothing;
+    }
+    let nanos = text::number_after(line, secs.end, b" ");
+    if !nanos.is_number {
+        return Form::Nothing;
+    }
+    if text::ends(line, nanos.end, b"))") {
+        return Form::BookWithTtl(capacity, limit, seq, secs.value, nanos.value);
     }
     Form::Nothing
 }
@@ -97,35 +112,69 @@ fn call_at(line: &[u8], at: usize, tick: u64) -> Form
 fn put_peek_or_purge(line: &[u8], at: usize, tick: u64) -> Form
     ensures { λ r. ⌜ r ≡ putIn tick (drop at (now (line .entry))) ⌝ }
 {
-    let timed = whole(line, at, b"put 0 0 (ttl 0 0)))");
-    if timed.is_match {
-        let n = timed.numbers;
-        return Form::At(tick, Call::PutWithTtl(n[0], n[1], n[2], n[3]));
+    let key = text::number_after(line, at, b"put ");
+    if key.is_number {
+        return put(line, key.end, tick, key.value);
     }
-    let put = whole(line, at, b"put 0 0))");
-    if put.is_match {
-        let n = put.numbers;
-        return Form::At(tick, Call::Put(n[0], n[1]));
+    let peek = only_number(line, at, b"peek ");
+    if peek.is_number {
+        return Form::At(tick, Call::Peek(peek.value));
     }
-    let peek = whole(line, at, b"peek 0))");
-    if peek.is_match {
-        let n = peek.numbers;
-        return Form::At(tick, Call::Peek(n[0]));
-    }
-    let purge = whole(line, at, b"purge))");
-    if purge.is_match {
+    if text::ends(line, at, b"purge))") {
         return Form::At(tick, Call::Purge);
     }
     Form::Nothing
 }
 
+// From a put's key on.
+fn put(line: &[u8], at: usize, tick: u64, key: u64) -> Form
+    ensures { λ r. ⌜ r ≡ putOn tick key (drop at (now (line .entry))) ⌝ }
+{
+    let value = text::number_after(line, at, b" ");
+    if !value.is_number {
+        return Form::Nothing;
+    }
+    if text::ends(line, value.end, b"))") {
+        return Form::At(tick, Call::Put(key, value.value));
+    }
+    put_with_ttl(line, value.end, tick, key, value.value)
+}
+
+// From a put's value on.
+fn put_with_ttl(line: &[u8], at: usize, tick: u64, key: u64, value: u64) -> Form
+    ensures { λ r. ⌜ r ≡ putWithTtlIn tick key value (drop at (now (line .entry))) ⌝ }
+{
+    let secs = text::number_after(line, at, b" (ttl ");
+    if !secs.is_number {
+        return Form::Nothing;
+    }
+    let nanos = text::number_after(line, secs.end, b" ");
+    if !nanos.is_number {
+        return Form::Nothing;
+    }
+    if text::ends(line, nanos.end, b")))") {
+        return Form::At(tick, Call::PutWithTtl(key, value, secs.value, nanos.value));
+    }
+    Form::Nothing
+}
+
+// The number of a call that has one, from the call's name on.
+fn only_number(line: &[u8], at: usize, name: &[u8]) -> Number
+    ensures { λ r. ⌜ ReadsOnly (now (line .entry)) at (now (name .entry)) r ⌝ }
+{
+    let mut number = text::number_after(line, at, name);
+    if !text::ends(line, number.end, b"))") {
+        number.is_number = false;
+    }
+    number
+}
+
 fn get(line: &[u8], at: usize, tick: u64) -> Form
     ensures { λ r. ⌜ r ≡ getIn tick (drop at (now (line .entry))) ⌝ }
 {
-    let get = whole(line, at, b"get 0))");
-    if get.is_match {
-        let n = get.numbers;
-        return Form::At(tick, Call::Get(n[0]));
+    let key = only_number(line, at, b"get ");
+    if key.is_number {
+        return Form::At(tick, Call::Get(key.value));
     }
     Form::Nothing
 }
@@ -133,10 +182,9 @@ fn get(line: &[u8], at: usize, tick: u64) -> Form
 fn status(line: &[u8], at: usize, tick: u64) -> Form
     ensures { λ r. ⌜ r ≡ statusIn tick (drop at (now (line .entry))) ⌝ }
 {
-    let status = whole(line, at, b"status 0))");
-    if status.is_match {
-        let n = status.numbers;
-        return Form::At(tick, Call::Status(n[0]));
+    let key = only_number(line, at, b"status ");
+    if key.is_number {
+        return Form::At(tick, Call::Status(key.value));
     }
     Form::Nothing
 }
@@ -144,10 +192,20 @@ fn status(line: &[u8], at: usize, tick: u64) -> Form
 fn ttl(line: &[u8], at: usize, tick: u64) -> Form
     ensures { λ r. ⌜ r ≡ ttlIn tick (drop at (now (line .entry))) ⌝ }
 {
-    let ttl = whole(line, at, b"ttl 0 0 0))");
-    if ttl.is_match {
-        let n = ttl.numbers;
-        return Form::At(tick, Call::Ttl(n[0], n[1], n[2]));
+    let key = text::number_after(line, at, b"ttl ");
+    if !key.is_number {
+        return Form::Nothing;
+    }
+    let secs = text::number_after(line, key.end, b" ");
+    if !secs.is_number {
+        return Form::Nothing;
+    }
+    let nanos = text::number_after(line, secs.end, b" ");
+    if !nanos.is_number {
+        return Form::Nothing;
+    }
+    if text::ends(line, nanos.end, b"))") {
+        return Form::At(tick, Call::Ttl(key.value, secs.value, nanos.value));
     }
     Form::Nothing
 }
@@ -155,13 +213,11 @@ fn ttl(line: &[u8], at: usize, tick: u64) -> Form
 fn drop_or_due(line: &[u8], at: usize, tick: u64) -> Form
     ensures { λ r. ⌜ r ≡ dropIn tick (drop at (now (line .entry))) ⌝ }
 {
-    let drop = whole(line, at, b"drop 0))");
-    if drop.is_match {
-        let n = drop.numbers;
-        return Form::At(tick, Call::Drop(n[0]));
+    let key = only_number(line, at, b"drop ");
+    if key.is_number {
+        return Form::At(tick, Call::Drop(key.value));
     }
-    let due = whole(line, at, b"due))");
-    if due.is_match {
+    if text::ends(line, at, b"due))") {
         return Form::At(tick, Call::Due);
     }
     Form::Nothing
@@ -170,10 +226,9 @@ fn drop_or_due(line: &[u8], at: usize, tick: u64) -> Form
 fn has(line: &[u8], at: usize, tick: u64) -> Form
     ensures { λ r. ⌜ r ≡ hasIn tick (drop at (now (line .entry))) ⌝ }
 {
-    let has = whole(line, at, b"has 0))");
-    if has.is_match {
-        let n = has.numbers;
-        return Form::At(tick, Call::Has(n[0]));
+    let key = only_number(line, at, b"has ");
+    if key.is_number {
+        return Form::At(tick, Call::Has(key.value));
     }
     Form::Nothing
 }
@@ -181,8 +236,7 @@ fn has(line: &[u8], at: usize, tick: u64) -> Form
 fn live(line: &[u8], at: usize, tick: u64) -> Form
     ensures { λ r. ⌜ r ≡ liveIn tick (drop at (now (line .entry))) ⌝ }
 {
-    let live = whole(line, at, b"live))");
-    if live.is_match {
+    if text::ends(line, at, b"live))") {
         return Form::At(tick, Call::Live);
     }
     Form::Nothing
@@ -191,8 +245,7 @@ fn live(line: &[u8], at: usize, tick: u64) -> Form
 fn clear(line: &[u8], at: usize, tick: u64) -> Form
     ensures { λ r. ⌜ r ≡ clearIn tick (drop at (now (line .entry))) ⌝ }
 {
-    let clear = whole(line, at, b"clear))");
-    if clear.is_match {
+    if text::ends(line, at, b"clear))") {
         return Form::At(tick, Call::Clear);
     }
     Form::Nothing

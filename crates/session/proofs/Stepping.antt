@@ -144,9 +144,9 @@ module _ {ws out ws′ out′ line : List ℕ} {s : code.Session} {r : Stepped} 
   pub step-next : {f : Form} {b : Expiring} → Reads line f → s ≡ session.Open b → Continues ws b f out ws′ out′ r → Steps ws s line out ws′ out′ r
   step-next read e k = stepped read (k .safe) (λ st a. from-book k (subst (λ (z : code.Session). Stands ws z st) e a))
 
-pub step-ended : {ws out line : List ℕ} {s : code.Session} → room ≤ length out → s ≡ session.Ended → Steps ws s line out ws out (record { session = session.Ended; written = 0 })
-step-ended {ws} enough e = record {
+pub step-ended : {ws out line : List ℕ} {s : code.Session} → room ≤ length out → s ≡ session.Ended → Steps ws s line out ws out (record { session = s; written = 0 })
+step-ended {ws} {out} enough e = record {
   safe = record { words = refl; lent = refl; within = omega arith };
   short = λ h. absurd (omega (arith, enough, h));
-  follows = λ _ st a f _. from-end (length ws) f (subst (λ (z : code.Session). Stands ws z st) e a);
+  follows = λ _ st a f _. subst (λ (z : code.Session). Follows out (step (length ws) st f) ws out (record { session = z; written = 0 })) (sym e) (from-end (length ws) f (subst (λ (z : code.Session). Stands ws z st) e a));
 }

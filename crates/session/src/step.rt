@@ -47,7 +47,7 @@ impl Session {
             Session::Waiting => first(words, forms::parse(line), out),
             Session::Open(book) => next(book, words, forms::parse(line), out),
             Session::Ended => Stepped {
-                session: Session::Ended,
+                session: self,
                 written: 0,
             },
         }

@@ -12,6 +12,7 @@ use Rattle.text.specs.Reading.{isDigit, readNumber, readIn}
 use Rattle.text.proofs.Decimals.{size-le}
 use Rattle.text.proofs.Back.{slots, parted, number-back, format-back}
 use Rattle.text.proofs.Texts.{Found, zeros-small, found}
+pub use Rattle.text.proofs.Formats.{end-sound, after-sound, text-on, field-none, field-some}
 pub use Rattle.text.proofs.Fills.{fill-size}
 pub use Rattle.text.proofs.Stores.{sets-append, puts-then}
 

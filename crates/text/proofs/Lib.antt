@@ -1,9 +1,9 @@
 pub mod Places
-pub mod Formats
 pub mod Decimals
 pub mod Stores
 pub mod Fills
 pub mod Numbers
+pub mod Formats
 pub mod Texts
 pub mod Back
 pub mod Laws

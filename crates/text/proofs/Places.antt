@@ -3,14 +3,15 @@ use mathlib.Core.Path.{_≡_, sym, _∙_}
 use mathlib.Core.Bool.{true, false, true≢false}
 use mathlib.Core.List.{List}
 use mathlib.Core.Option.{none, some}
-use Prim.Native.Nat.{ℕ, _+_, _-_, _*_, _^_, _<_, _≤_}
+use Prim.Native.Nat.{ℕ, _+_, _-_, _*_, _/_, _^_, _<_, _≤_}
 use native.Mathlib.Numerals.{add-one}
 use native.Mathlib.Omega.{arith}
-use borrow.Author.Tests.{lt-ltb, le-ltb, le-leb, lt-leb, ne-eqb}
+use borrow.Author.Tests.{ltb-true, ltb-false, lt-ltb, le-ltb, le-leb, lt-leb, ne-eqb}
+use lib.Dec.{ltb}
 use lib.ListN.{length, getD, drop, drop-of-length-le}
 use lib.Seq.{drop-cons}
 use Rattle.text.specs.declared.number.Number.{Number}
-use Rattle.text.specs.Reading.{isDigit, readOn, readNumber, numberIn, ReadsOn, ReadsNumber}
+use Rattle.text.specs.Reading.{isDigit, readOn, readNumber, numberIn, IsOver, ReadsOn, ReadsNumber}
 
 -- ---- which bytes are digits
 pub is-digit : (c : ℕ) → 48 ≤ c → c ≤ 57 → isDigit c ≡ true
@@ -21,6 +22,13 @@ below-digits c h = simp (lt-leb 48 c h)
 
 pub above-digits : (c : ℕ) → 57 < c → isDigit c ≡ false
 above-digits c h = simp (le-leb 48 c (omega arith), lt-leb c 57 h)
+
+-- ---- values that another digit makes too large
+pub over-last : (v d : ℕ) → d < 10 → IsOver v d (ltb ((18446744073709551615 - d) / 10) v)
+over-last v d small = record {
+  over = λ h. omega (arith, ltb-true ((18446744073709551615 - d) / 10) v h);
+  fits = λ h. omega (arith, ltb-false ((18446744073709551615 - d) / 10) v h);
+}
 
 -- ---- digits that go on with a number
 module _ (v : ℕ) (line : List ℕ) (i : ℕ) where

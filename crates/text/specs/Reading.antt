@@ -1,13 +1,12 @@
 -- What reading a text by a format comes to. That it is the way back from `fill` is shown in proofs/.
 use mathlib.Core.Path.{_≡_}
-use mathlib.Core.Bool.{Bool, true, cond, _&&_}
+use mathlib.Core.Bool.{Bool, true, false, cond, not, _&&_}
 use mathlib.Core.List.{List, [], _∷_}
 use mathlib.Core.Option.{Option, none, some}
-use Prim.Native.Nat.{ℕ, suc, _+_, _-_, _*_, _^_, _≤_}
+use Prim.Native.Nat.{ℕ, suc, _+_, _-_, _*_, _^_, _<_, _≤_}
 use lib.Dec.{ltb, leb, eqb}
 use lib.ListN.{length, drop, set}
 use Rattle.text.specs.declared.number.Number.{Number}
-use Rattle.text.specs.declared.reader.Fields.{Fields}
 
 abbrev pub isDigit : ℕ → Bool
 isDigit c = leb 48 c && leb c 57
@@ -31,10 +30,29 @@ abbrev pub readByte : ℕ → List ℕ → Option (List ℕ)
 readByte c [] = none
 readByte c (x ∷ s) = cond (eqb x c) (some s) none
 
+-- ---- a text that is known, and the text after it
+unfoldable pub readText : List ℕ → List ℕ → Option (List ℕ)
+readText [] s = some s
+readText (c ∷ t) s = andThen (readByte c s) (λ r. readText t r)
+
+abbrev pub isEnd : Option (List ℕ) → Bool
+isEnd none = false
+isEnd (some []) = true
+isEnd (some (c ∷ s)) = false
+
+-- a number behind it
+abbrev pub numberAfter : List ℕ → List ℕ → Option (ℕ × List ℕ)
+numberAfter t s = andThen (readText t s) (λ r. readNumber r)
+
 -- ---- a text by a format: its numbers, at most five, with zeros after them, and the text after it
 unfoldable pub readFrom : ℕ → List ℕ → List ℕ → List ℕ → Option (List ℕ × List ℕ)
 readFrom k ns [] s = some (ns, s)
 readFrom k ns (c ∷ f) s = cond (eqb c 48) (andThen (readNumber s) (λ r. cond (ltb k 5) (readFrom (suc k) (set ns k (r .0)) f (r .1)) none)) (andThen (readByte c s) (λ r. readFrom k ns f r))
+
+-- a format without numbers
+abbrev pub plain : List ℕ → Bool
+plain [] = true
+plain (c ∷ t) = not (eqb c 48) && plain t
 
 abbrev pub readIn : List ℕ → List ℕ → Option (List ℕ × List ℕ)
 readIn f s = readFrom 0 (0 ∷ 0 ∷ 0 ∷ 0 ∷ 0 ∷ []) f s
@@ -51,10 +69,17 @@ pub record ReadsOn (line : List ℕ) (from v : ℕ) (r : Number) : Type 0 where
   pub number : numberIn line r ≡ readOn v (drop from line)
   pub within : r .«is_number» ≡ true → r .end ≤ length line
 
-abbrev pub fieldsIn : List ℕ → Fields → Option (List ℕ × List ℕ)
-fieldsIn line r = cond (r .«is_match») (some (r .numbers, drop (r .end) line)) none
+pub record IsOver (v d : ℕ) (r : Bool) : Type 0 where
+  pub over : r ≡ true → 2 ^ 64 ≤ v * 10 + d
+  pub fits : r ≡ false → v * 10 + d < 2 ^ 64
 
-pub record Reads (line : List ℕ) (at : ℕ) (f : List ℕ) (r : Fields) : Type 0 where
-  pub fields : fieldsIn line r ≡ readIn f (drop at line)
-  pub within : r .«is_match» ≡ true → r .end ≤ length line
-  pub size : length (r .numbers) ≡ 5
+pub record Starts (line : List ℕ) (at : ℕ) (t : List ℕ) (r : Bool) : Type 0 where
+  pub text : cond r (some (drop (at + length t) line)) none ≡ readText t (drop at line)
+  pub within : r ≡ true → at ≤ length line → at + length t ≤ length line
+
+pub record Ends (line : List ℕ) (at : ℕ) (t : List ℕ) (r : Bool) : Type 0 where
+  pub is : r ≡ isEnd (readText t (drop at line))
+
+pub record ReadsAfter (line : List ℕ) (at : ℕ) (t : List ℕ) (r : Number) : Type 0 where
+  pub number : numberIn line r ≡ numberAfter t (drop at line)
+  pub within : r .«is_number» ≡ true → r .end ≤ length line

@@ -1,9 +1,9 @@
 // Numbers in base ten.
 ghost use mathlib.Core.Path.{_≡_};
 ghost use mathlib.Core.Bool.{false};
-ghost use Prim.Native.Nat.{_≤_};
+ghost use Prim.Native.Nat.{_<_, _≤_};
 ghost use lib.ListN.{length};
-ghost use Rattle.text.specs.Reading.{ReadsNumber, ReadsOn};
+ghost use Rattle.text.specs.Reading.{ReadsNumber, ReadsOn, IsOver};
 
 // A number that stands in a line, and where it ends.
 pub struct Number {
@@ -12,7 +12,7 @@ pub struct Number {
     pub end: usize,
 }
 
-fn no_number() -> Number
+pub fn no_number() -> Number
     ensures { λ r. ⌜ r .«is_number» ≡ false ⌝ }
 {
     Number {
@@ -46,6 +46,17 @@ pub fn number_at(line: &[u8], at: usize) -> Number
     digits_from(line, at + 1, (first - b'0') as u64)
 }
 
+// Whether a value with a digit behind it is too large. Most are far from it, and need no division.
+fn is_over(value: u64, digit: u64) -> bool
+    requires { ⌜ digit < 10 ⌝ }
+    ensures { λ r. ⌜ IsOver value digit r ⌝ }
+{
+    if value < u64::MAX / 10 {
+        return false;
+    }
+    (u64::MAX - digit) / 10 < value
+}
+
 // The number that a value starts, and the digits from a place on go on with.
 fn digits_from(line: &[u8], from: usize, value: u64) -> Number
     requires { ⌜ from ≤ length (now line) ⌝ }
@@ -70,7 +81,7 @@ fn digits_from(line: &[u8], from: usize, value: u64) -> Number
             };
         }
         let digit = (byte - b'0') as u64;
-        if (u64::MAX - digit) / 10 < value {
+        if is_over(value, digit) {
             return no_number();
         }
         value = value * 10 + digit;

@@ -1,7 +1,8 @@
--- The first format that fits tells the form.
+use mathlib.Core.Path.{refl}
 use borrow.Author.Needs.{needs}
+use Rattle.text.specs.Text.{bytes}
 use Rattle.forms.specs.Reading.{dropIn}
-use Rattle.forms.proofs.Wholes.{fits, unfit}
+use Rattle.forms.proofs.Wholes.{fits, unfit, ended, unended}
 use Rattle.forms.proofs.form.drop_or_due.Statement.{statement}
 use Rattle.forms.proofs.form.drop_or_due.Tie as tie
 
@@ -12,13 +13,12 @@ drop-or-due-spec =
     (tie.spec
     (λ c. search needs)
     (λ c κs. search needs)
-    (λ c. search needs)
-    (λ c. simp (fits (c .before .before .whole .ensures) (c .before .if1 .taken)))
+    (λ c. simp (fits (c .before .only-number .ensures) refl (c .if1 .taken)))
     (λ c. search needs)
     (λ c κs. search needs)
     (λ c.
-    let e1 = c .before .before .before in
-    simp (unfit (e1 .before .whole .ensures) (e1 .if1 .left), fits (c .before .whole2 .ensures) (c .if2 .taken)))
+    let k = c .before .before .before in
+    simp (unfit (k .before .only-number .ensures) refl (k .if1 .left), ended (bytes "due))") refl (c .before .ends .ensures) (c .if2 .taken)))
     (λ c.
-    let e1 = c .before .before .before in
-    simp (unfit (e1 .before .whole .ensures) (e1 .if1 .left), unfit (c .before .whole2 .ensures) (c .if2 .left))))
+    let k = c .before .before .before in
+    simp (unfit (k .before .only-number .ensures) refl (k .if1 .left), unended (bytes "due))") refl (c .before .ends .ensures) (c .if2 .left))))

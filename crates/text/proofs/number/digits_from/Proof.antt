@@ -28,12 +28,19 @@ digits-from-spec =
     (λ c. let l = c .before .before .before .before in
     record { number = sym (on-other _ _ _ (c .before .before .before .loop-test .taken) (above-digits _ (c .if2 .taken))) ∙ l .loop .inv .2; within = λ _. l .loop .inv .0 })
     (λ c. search needs)
-    (λ c. search needs)
     (λ c κs. search needs)
-    (λ c. none-on _ _ _ (c .no-number .ensures) _ (sym (c .before .before .before .before .before .before .loop .inv .2) ∙ on-over _ _ _ (c .before .before .before .before .before .loop-test .taken) (is-digit _ (c .before .before .before .if1 .left) (c .before .before .if2 .left)) (omega arith)))
-    (λ c. omega arith)
-    (λ c. omega arith)
+    (λ c κs. search needs)
+    (λ c.
+    let e = c .before .before .before in
+    let l = e .before .before .before in
+    none-on _ _ _ (c .no-number .ensures) _ (sym (l .before .loop .inv .2) ∙ on-over _ _ _ (l .loop-test .taken) (is-digit _ (e .before .if1 .left) (e .if2 .left)) (c .before .before .is-over .ensures .over (c .before .if3 .taken))))
+    (λ c. omega (arith, c .before .is-over .ensures .fits (c .if3 .left)))
+    (λ c. omega (arith, c .before .is-over .ensures .fits (c .if3 .left)))
     (λ c. search needs)
     (λ c. search needs)
-    (λ c. (omega arith, omega arith, sym (on-digit _ _ _ (c .before .before .before .before .loop-test .taken) (is-digit _ (c .before .before .if1 .left) (c .before .if2 .left)) (omega arith)) ∙ c .before .before .before .before .before .loop .inv .2))
+    (λ c.
+    let e = c .before .before in
+    let l = e .before .before .before in
+    let fits = c .before .is-over .ensures .fits (c .if3 .left) in
+    (omega arith, fits, sym (on-digit _ _ _ (l .loop-test .taken) (is-digit _ (e .before .if1 .left) (e .if2 .left)) fits) ∙ l .before .loop .inv .2))
     (λ c. record { number = sym (on-end _ _ _ (c .loop-test .left)) ∙ c .before .loop .inv .2; within = λ _. c .before .loop .inv .0 }))
