@@ -43,9 +43,10 @@ impl Session {
                 written: 0,
             };
         }
+        let form = forms::parse(line);
         match self {
-            Session::Waiting => first(words, forms::parse(line), out),
-            Session::Open(book) => next(book, words, forms::parse(line), out),
+            Session::Waiting => first(words, form, out),
+            Session::Open(book) => next(book, words, form, out),
             Session::Ended => Stepped {
                 session: self,
                 written: 0,

@@ -3,7 +3,7 @@
 // The answers to a block of input are written before the next block is read, so that whoever waits for an answer at the other
 // end of a pipe gets it.
 ghost use mathlib.Core.Path.{_≡_};
-ghost use Prim.Native.Nat.{_+_, _≤_, min};
+ghost use Prim.Native.Nat.{_+_, _<_, _≤_, min};
 ghost use lib.ListN.{length, take};
 ghost use Rattle.tube_book.specs.Keeping.{isEnded, Keeps};
 use libc::STDIN_FILENO;
@@ -67,18 +67,51 @@ fn answer_all(words: &mut [u64], bytes: &mut [u8], out: &mut [u8]) {
     }
 }
 
-// Reads a block behind what is kept, and answers its lines; at the end of the input, a last line without its newline.
+// Reads a block behind what is kept, and answers its lines.
 fn answer_block(reader: Reader, words: &mut [u64], bytes: &mut [u8], out: &mut [u8]) -> Reader {
     let session = reader.session;
     let kept = reader.kept;
     if bytes.len() <= kept {
         return done();
     }
-    let n = read_behind(bytes, kept);
-    if n == 0 {
-        return answer_last(session, words, bytes, kept, out);
+    let block = read_block(bytes, kept);
+    let size = block.size;
+    let after = answer_lines(session, words, bytes, size, out);
+    if block.is_last {
+        return done();
     }
-    answer_lines(session, words, bytes, kept + n, out)
+    after
+}
+
+// How many bytes there are to answer, and whether they are the last.
+struct Block {
+    size: usize,
+    is_last: bool,
+}
+
+// At the end of the input a last line that lacks its newline is given it.
+fn read_block(bytes: &mut [u8], kept: usize) -> Block
+    requires { ⌜ kept < length (now bytes) ⌝ }
+    ensures { λ r. ⌜ r .size ≤ length (now (bytes .entry)) ⌝ }
+{
+    let n = read_behind(bytes, kept);
+    if 0 < n {
+        return Block {
+            size: kept + n,
+            is_last: false,
+        };
+    }
+    if kept == 0 {
+        return Block {
+            size: 0,
+            is_last: true,
+        };
+    }
+    bytes[kept] = b'\n';
+    Block {
+        size: kept + 1,
+        is_last: true,
+    }
 }
 
 fn read_behind(bytes: &mut [u8], kept: usize) -> usize
@@ -89,24 +122,6 @@ fn read_behind(bytes: &mut [u8], kept: usize) -> usize
     let rest = &mut bytes[kept..];
     let got = libc::read(STDIN_FILENO, rest);
     io::count(got, rest)
-}
-
-fn answer_last(
-    session: Session,
-    words: &mut [u64],
-    bytes: &[u8],
-    kept: usize,
-    out: &mut [u8],
-) -> Reader
-    requires { ⌜ kept ≤ length (now bytes) ⌝ }
-{
-    if kept == 0 {
-        return done();
-    }
-    let stepped = session.step(words, &bytes[..kept], out);
-    let written = stepped.written;
-    io::write_all(STDOUT_FILENO, &out[..written]);
-    done()
 }
 
 // Answers the lines of the first bytes, as many of them as there are, and keeps what is left.
