@@ -1,15 +1,12 @@
 -- Steps on one part of a book, as the layer below promises them, and one step after another.
 use mathlib.Core.Path.{_≡_, refl, sym, ap, _∙_}
 use mathlib.Core.List.{List}
-use mathlib.Core.Option.{Option, none, some}
 use Prim.Native.Nat.{ℕ, _-_, _≤_}
 use native.Mathlib.Omega.{arith}
 use lib.ListN.{length}
 use lib.ListN as words
 use borrow.Rule.Slice.PartMut.{midOf, putMid}
 use Rattle.time.specs.declared.refusal.Outcome.{Outcome}
-use Rattle.time.specs.declared.refusal.Refusal.{Refusal}
-use Rattle.time.specs.declared.tick.Tick.{Tick}
 use Rattle.lazy_heap.specs.Model.{Heap, removed, peeked}
 use Rattle.lazy_heap.specs.Calls.{nothing, stale}
 use Rattle.lazy_heap.specs.Words as heap
@@ -19,18 +16,15 @@ use Rattle.fast_lru.specs.Lru as lru
 use Rattle.fast_lru.proofs.Laws as list
 use Rattle.expiration_index.specs.declared.index.ExpirationIndex.{ExpirationIndex}
 use Rattle.expiration_index.specs.declared.answers.Cleared.{Cleared}
-use Rattle.expiration_index.specs.declared.answers.Deadline.{Deadline}
-use Rattle.expiration_index.specs.declared.answers.Deadline.the-variants as deadline
-use Rattle.expiration_index.specs.Model.{Pair, Pairs, deadlineIn}
+use Rattle.expiration_index.specs.Model.{Pairs}
 use Rattle.expiration_index.specs.Model as pairs
 use Rattle.expiration_index.specs.Index as index
 use Rattle.expiration_index.specs.Calls as calls
-use Rattle.expiration_index.proofs.Laws as indexed
 use Rattle.expiring.specs.declared.expiring.Expiring.{Expiring}
 use Rattle.expiring.specs.Model.{Change, keep, drop, dropAll, look, pairsAfter}
 use Rattle.expiring.specs.Discards.{discards, heapAfter}
 use Rattle.expiring.specs.Book.{start, Room, capacityOf, limitOf, rest, IsBook, heapOf, Kept}
-use Rattle.expiring.specs.Steps.{withList, withIndex, deadlinesOf, DeadlineOf, Moved, same}
+use Rattle.expiring.specs.Steps.{withList, withIndex, deadlinesOf, Moved, same}
 use Rattle.expiring.proofs.Frames.{rest-is, rest-back, rest-length, rest-before, rest-kept, kept-then, kept-list}
 
 -- ---- what keeps the deadlines
@@ -157,6 +151,22 @@ module _ {ws ws₁ ws₂ : List ℕ} {b b₁ b₂ : Expiring} {f : Items → Ite
     kept = kept-then (p .capacity) (p .limit) (p .kept) (q .kept);
   }
 
+-- ---- and the other way round
+module _ {ws ws₁ ws₂ : List ℕ} {b b₁ b₂ : Expiring} {f : Items → Items} {ch : Change} {d : ℕ} where
+  pub moved-later : Moved ws b ch same ws₁ b₁ d → Moved ws₁ b₁ keep f ws₂ b₂ 0 → Moved ws b ch f ws₂ b₂ d
+  moved-later p q = record {
+    capacity = q .capacity ∙ p .capacity;
+    limit = q .limit ∙ p .limit;
+    lifetime = q .lifetime ∙ p .lifetime;
+    expirations = q .expirations ∙ p .expirations;
+    book = λ o. q .book (p .book o);
+    stored = λ o. q .stored (p .book o) ∙ ap f (p .stored o);
+    deadlines = λ o. q .deadlines (p .book o) ∙ pairs-keep (deadlinesOf ws₁ b₁) ∙ p .deadlines o;
+    heap = λ o. q .heap (p .book o) ∙ heap-keep (heapOf ws₁ b₁) ∙ p .heap o;
+    discarded = p .discarded;
+    kept = kept-then (p .capacity) (p .limit) (p .kept) (q .kept);
+  }
+
 -- ---- no step at all
 pub moved-same : (ws : List ℕ) (b : Expiring) → Moved ws b keep same ws b 0
 moved-same ws b = record {
@@ -171,32 +181,3 @@ moved-same ws b = record {
   discarded = λ o. sym (discards-keep (heapOf ws b));
   kept = record { size = refl; past = λ j h. refl };
 }
-
--- a key that holds no deadline is dropped for nothing
-pub nothing-not-at : {d : Deadline} → d ≡ deadline.Nothing → (x : Tick) → d ≡ deadline.At x → ⊥
-nothing-not-at e x q = let z : _≡_ {A = ℕ} 0 1 = cc in omega arith
-
-pub refused-not-at : {d : Deadline} {why : Refusal} → d ≡ deadline.Refused why → (x : Tick) → d ≡ deadline.At x → ⊥
-refused-not-at e x q = let z : _≡_ {A = ℕ} 0 1 = cc in omega arith
-
-pub moved-undated : (ws : List ℕ) (b : Expiring) (k : ℕ) {d : Deadline} → DeadlineOf ws b k d → ((x : Tick) → d ≡ deadline.At x → ⊥) → Moved ws b (drop k) same ws b 0
-unfolding pairsAfter heapAfter discards pairs.deadlineOf
-moved-undated ws b k {d} a none-at = record {
-  capacity = refl;
-  limit = refl;
-  lifetime = refl;
-  expirations = refl;
-  book = λ o. o;
-  stored = λ o. refl;
-  deadlines = λ o. sym (law o .1);
-  heap = λ o. sym (law o .0);
-  discarded = λ o. refl;
-  kept = record { size = refl; past = λ j h. refl };
-}
-  where
-    undated : (x : Option Pair) → d ≡ deadlineIn x → deadlineIn x ≡ deadline.Nothing
-    undated none e = refl
-    undated (some p) e = absurd (none-at (p .deadline) e)
-
-    law : IsBook ws b → (removed k (heapOf ws b) ≡ heapOf ws b) × (pairs.without k (deadlinesOf ws b) ≡ deadlinesOf ws b)
-    law o = indexed.removed-none k (heapOf ws b) (undated (pairs.lookup k (deadlinesOf ws b)) (a .answer o))

@@ -31,7 +31,7 @@ use Rattle.expiring.specs.declared.expiring.Expiring.{Expiring}
 use Rattle.expiring.specs.Model.{keep, set, valueIn, pairsAfter}
 use Rattle.expiring.specs.Discards.{discards, heapAfter}
 use Rattle.expiring.specs.Book.{start, Room, capacityOf, limitOf, IsBook, heapOf}
-use Rattle.expiring.specs.Steps.{ofFound, isAccepted, withList, withIndex, storedOf, deadlinesOf, Dating, Valuing}
+use Rattle.expiring.specs.Steps.{ofFound, isAccepted, withList, withIndex, storedOf, deadlinesOf, DeadlineOf, Dating, Valuing}
 use Rattle.expiring.proofs.Moving.{moved-list, lent, back, lent-is, lent-index, moved-index}
 use Rattle.expiring.proofs.Acting.{Accepted, no-refusal}
 
@@ -90,6 +90,10 @@ module _ (ws : List ℕ) (b : Expiring) (room : Room (length ws) (capacityOf b) 
   said : IsBook ws b → isAccepted (r .answer) ≡ not (isFull (limitOf b) k (deadlinesOf ws b))
   said is = ap isAccepted (o .answer (lent-index ws b room is)) ∙ set-accepted (limitOf b) k (index.modelOf (lent ws b) (b .index)) ∙ ap (λ (l : List ℕ). not (isFull (limitOf b) k (index.modelOf l (b .index)))) (lent-is ws b room)
 
+  -- the answer is the deadline that it replaced
+  pub set-held : isAccepted (r .answer) ≡ true → DeadlineOf ws b k (r .answer)
+  set-held e = record { answer = λ is. let full : isFull (limitOf b) k (deadlinesOf ws b) ≡ false = not-true _ (sym (said is) ∙ e) in o .answer (lent-index ws b room is) ∙ ap (λ (l : List ℕ). setAnswer (limitOf b) k (index.modelOf l (b .index))) (lent-is ws b room) ∙ rw full }
+
   pub dating : {s : Bool} → s ≡ isAccepted (r .answer) → Dating ws b k t (back ws b ys) (record { book = withIndex b (r .index); «is_set» = s; discarded = r .discarded })
   unfolding pairsAfter heapAfter discards
   dating e = record {
@@ -102,3 +106,7 @@ module _ (ws : List ℕ) (b : Expiring) (room : Room (length ws) (capacityOf b) 
         (λ is. o .heap (lent-index ws b room is) (free is) ∙ ap (λ (l : List ℕ). updated k (t .0) (index.heapOf l (b .index))) (lent-is ws b room))
         (λ is. o .discarded (lent-index ws b room is) (free is) ∙ ap (λ (l : List ℕ). updateDiscards k (t .0) (index.heapOf l (b .index))) (lent-is ws b room));
   }
+
+-- that of a removed deadline is what it was
+pub removed-held : (ws : List ℕ) (b : Expiring) → Room (length ws) (capacityOf b) (limitOf b) → (k : ℕ) {ys : List ℕ} {r : Changed} → calls.Removing (lent ws b) (b .index) k ys r → DeadlineOf ws b k (r .answer)
+removed-held ws b room k o = record { answer = λ is. o .answer (lent-index ws b room is) ∙ ap (λ (l : List ℕ). deadlineOf k (index.modelOf l (b .index))) (lent-is ws b room) }

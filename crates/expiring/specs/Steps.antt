@@ -165,7 +165,7 @@ pub record Valuing (ws : List ℕ) (b : Expiring) (ch : Change) (k : ℕ) (f : I
   pub answer : IsBook ws b → r .answer ≡ valueIn (list.lookup k (storedOf ws b))
   pub accepted : (why : Refusal) → r .answer ≡ answers.Refused why → ⊥
 
--- `put_value`
+-- an insert, of the values
 abbrev pub putting : Expiring → ℕ → ℕ → Items → Items
 putting b k v s = inserted (capacityOf b) (record { key = k; value = v }) s
 
@@ -205,11 +205,9 @@ pub record Acting (ws : List ℕ) (b : Expiring) (ch : Change) (s : Items) (n : 
   pub discarded : IsBook ws b → beyond ch ws b ≡ false → r .discarded ≡ discards ch (heapOf ws b)
   pub kept : Kept (capacityOf b) (limitOf b) ws ws′
 
--- `put_within`: the value goes in; the old one is the answer, unless it was expired
-pub record Placing (ws : List ℕ) (b : Expiring) (k v : ℕ) (expired : Bool) (d : ℕ) (ws′ : List ℕ) (r : Reply) : Type 0 where
-  pub acted : Acting ws b keep (putting b k v (storedOf ws b)) (cond expired 1 0) (unless expired (valueOf ws b k)) ws′ (replying (r .book) (r .answer))
-  pub accepted : (why : Refusal) → r .answer ≡ answers.Refused why → ⊥
-  pub discarded : r .discarded ≡ d
+-- `concluded`: the answer is what the list found of a key, unless the key's old deadline had come
+abbrev pub concluding : Expiring → Found → Deadline → Tick → ℕ → Reply
+concluding b f old t d = cond (comeBy old t) (record { book = withExpired b 1; answer = answers.Nothing; discarded = d }) (record { book = b; answer = ofFound f; discarded = d })
 
 -- `insert_until` and `insert_forever`
 abbrev pub Inserting : List ℕ → Expiring → Tick → ℕ → ℕ → Change → List ℕ → Reply → Type 0

@@ -7,7 +7,7 @@ ghost use Rattle.expiring.specs.declared.answers.Answer.the-variants as 
 ghost use Rattle.expiring.specs.Model.{contains, peek, get, insert, remove, clear, insertWithTtl, ttlStatus, setTtl, purgeExpired, liveLen, expirations, nextDeadline, touch, recencyRank, popLru, peekLru, keep, set, drop, dropAll, rankIn};
 ghost use Rattle.expiring.specs.Book.{Room, limitsOf, capacityOf, limitOf};
 ghost use Rattle.expiring.specs.Calls.{noBook, Following, Opening, Checking, DeadlinesHeld, HeapLength, SettingTtl};
-ghost use Rattle.expiring.specs.Steps.{ofFound, ofTold, ofOldest, ofDue, statusOf, isAccepted, comeBy, defaultedBy, saturatingSum, withList, withIndex, withExpired, replying, purging, putting, DeadlineOf, Expired, Stored, StoredCount, ExpiredCount, Moved, same, Dating, Valuing, Inserting, Placing, PoppingExpired};
+ghost use Rattle.expiring.specs.Steps.{ofFound, ofTold, ofOldest, ofDue, statusOf, isAccepted, comeBy, defaultedBy, saturatingSum, withList, withIndex, withExpired, replying, concluding, purging, DeadlineOf, Expired, Stored, StoredCount, ExpiredCount, Moved, same, Dating, Valuing, Inserting, PoppingExpired};
 ghost use Rattle.expiring.specs.Steps as steps;
 use crate::answers::Answer;
 use crate::answers::Reply;
@@ -743,18 +743,6 @@ impl Expiring {
         self.with_index(index)
     }
 
-    // The same, with the key's deadline in hand: there may be none to drop.
-    fn drop_held(self, words: &mut [u64], key: u64, deadline: Deadline) -> Expiring
-        requires { ⌜ Room (length (now words)) (capacityOf self) (limitOf self) × DeadlineOf (now words) self key deadline ⌝ }
-        ensures { λ r. ⌜ Moved (now (words .entry)) self (drop key) same (now (words .exit)) r 0 ⌝ }
-    {
-        match deadline {
-            Deadline::At(_) => self.drop_deadline(words, key),
-            Deadline::Nothing => self,
-            Deadline::Refused(_) => self,
-        }
-    }
-
     fn drop_all_deadlines(self, words: &mut [u64]) -> Dated
         requires { ⌜ Room (length (now words)) (capacityOf self) (limitOf self) ⌝ }
         ensures { λ r. ⌜ Moved (now (words .entry)) self dropAll same (now (words .exit)) (r .book) (r .discarded) ⌝ }
@@ -797,18 +785,6 @@ impl Expiring {
         }
     }
 
-    fn put_value(self, words: &mut [u64], key: u64, value: u64) -> Valued
-        ensures { λ r. ⌜ Valuing (now (words .entry)) self keep key (putting self key value) (now (words .exit)) r ⌝ }
-    {
-        let put = self.inner.insert(words, key, value);
-        let inner = put.lru;
-        let answer = put.answer;
-        Valued {
-            book: self.with_list(inner),
-            answer: of_found(answer),
-        }
-    }
-
     // ---- the larger calls, on words and numbers within their limits
 
     fn next_within(self, words: &mut [u64], _tick: Tick) -> Reply
@@ -830,14 +806,16 @@ impl Expiring {
         requires { ⌜ Room (length (now words)) (capacityOf self) (limitOf self) ⌝ }
         ensures { λ r. ⌜ steps.Removing (now (words .entry)) self tick key (now (words .exit)) r ⌝ }
     {
-        let was_expired = self.is_expired(words, tick, key);
-        let dropped = self.drop_both(words, key);
-        let book = dropped.book;
-        if was_expired {
-            return book.expired(1).answered(Answer::Nothing);
-        }
-        let answer = dropped.answer;
-        book.answered(answer)
+        let start = 64 + 8 * self.inner.map.capacity;
+        let changed = self.index.remove(&mut words[start..], key);
+        let old = changed.answer;
+        let index = changed.index;
+        let removed = self.inner.remove(words, key);
+        let inner = removed.lru;
+        let found = removed.answer;
+        self.with_index(index)
+            .with_list(inner)
+            .concluded(found, old, tick, 0)
     }
 
     fn insert_until(
@@ -851,48 +829,51 @@ impl Expiring {
         requires { ⌜ Room (length (now words)) (capacityOf self) (limitOf self) ⌝ }
         ensures { λ r. ⌜ Inserting (now (words .entry)) self tick key value (set key deadline) (now (words .exit)) r ⌝ }
     {
-        let was_expired = self.is_expired(words, tick, key);
-        let dated = self.set_deadline(words, key, deadline);
-        if !dated.is_set {
+        let start = 64 + 8 * self.inner.map.capacity;
+        let changed = self.index.set_deadline(&mut words[start..], key, deadline);
+        let old = changed.answer;
+        if !is_accepted(old) {
             return self.refused(Refusal::KeyLimitReached);
         }
-        let book = dated.book;
-        book.put_within(words, key, value, was_expired, dated.discarded)
+        let index = changed.index;
+        let put = self.inner.insert(words, key, value);
+        let inner = put.lru;
+        let found = put.answer;
+        self.with_index(index)
+            .with_list(inner)
+            .concluded(found, old, tick, changed.discarded)
     }
 
     fn insert_forever(self, words: &mut [u64], tick: Tick, key: u64, value: u64) -> Reply
         requires { ⌜ Room (length (now words)) (capacityOf self) (limitOf self) ⌝ }
         ensures { λ r. ⌜ Inserting (now (words .entry)) self tick key value (drop key) (now (words .exit)) r ⌝ }
     {
-        let deadline = self.deadline_of(words, key);
-        let book = self.drop_held(words, key, deadline);
-        book.put_within(words, key, value, has_come(deadline, tick), 0)
+        let start = 64 + 8 * self.inner.map.capacity;
+        let changed = self.index.remove(&mut words[start..], key);
+        let old = changed.answer;
+        let index = changed.index;
+        let put = self.inner.insert(words, key, value);
+        let inner = put.lru;
+        let found = put.answer;
+        self.with_index(index)
+            .with_list(inner)
+            .concluded(found, old, tick, 0)
     }
 
-    // The value goes in; the old one is the answer, unless it was expired.
-    fn put_within(
-        self,
-        words: &mut [u64],
-        key: u64,
-        value: u64,
-        was_expired: bool,
-        discarded: usize,
-    ) -> Reply
-        ensures { λ r. ⌜ Placing (now (words .entry)) self key value «was_expired» discarded (now (words .exit)) r ⌝ }
+    // The answer is what the list found of the key, unless its old deadline had come.
+    fn concluded(self, found: Found, old: Deadline, tick: Tick, discarded: usize) -> Reply
+        ensures { λ r. ⌜ r ≡ concluding self found old tick discarded ⌝ }
     {
-        let put = self.put_value(words, key, value);
-        let book = put.book;
-        if was_expired {
+        if has_come(old, tick) {
             return Reply {
-                book: book.expired(1),
+                book: self.expired(1),
                 answer: Answer::Nothing,
                 discarded,
             };
         }
-        let answer = put.answer;
         Reply {
-            book,
-            answer,
+            book: self,
+            answer: of_found(found),
             discarded,
         }
     }

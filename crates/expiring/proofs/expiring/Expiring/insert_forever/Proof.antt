@@ -1,6 +1,8 @@
-use mathlib.Core.Path.{refl}
-use Rattle.expiring.proofs.Asking.{expired-by}
+use mathlib.Core.Path.{refl, _∙_}
+use native.Mathlib.Omega.{arith}
 use Rattle.expiring.proofs.Calling.{inserting}
+use Rattle.expiring.proofs.Moving.{index-kept, moved-drop}
+use Rattle.expiring.proofs.Valuing.{removed-held}
 use borrow.Author.Needs.{needs}
 use Rattle.expiring.proofs.expiring.Expiring.insert_forever.Statement.{statement}
 use Rattle.expiring.proofs.expiring.Expiring.insert_forever.Tie as tie
@@ -9,9 +11,24 @@ pub insert-forever-spec : {M : Type 1} → statement M
 insert-forever-spec =
     tie.close
     (tie.spec
-    (λ c κs. search needs)
-    (λ c κs. search needs)
-    (λ c κs. search needs)
-    (λ c κs. search needs)
     (λ c. search needs)
-    (λ c. let p = c .before .before in let h = p .before in let d = h .before .before .before .before in inserting (d .drop-held .ensures) (λ o. refl) (expired-by _ (d .before .before .deadline-of .ensures) (h .has-come .ensures)) (p .put-within .ensures)))
+    (λ c. search needs)
+    (λ c. search needs)
+    (λ c. search needs)
+    (λ c. search needs)
+    (λ c. search needs)
+    (λ c κs. search needs)
+    (λ c κs. search needs)
+    (λ c κs. search needs)
+    (λ c κs. search needs)
+    (λ c κs. search needs)
+    (λ c.
+    let i = c .before .before .before .before .before .before in
+    let d = i .before .before .before .before .before in
+    i .insert .ensures .kept .size ∙ index-kept _ (d .before .before .before .before .args .self) (d .before .before .before .before .pre) (d .remove .result .index) (d .remove .ensures .call .kept) .size)
+    (λ c.
+    let l = c .before in
+    let i = l .before .before .before .before .before in
+    let d = i .before .before .before .before .before in
+    let s = d .before .before .before .before in
+    rw (c .concluded .ensures, l .with-list .ensures, l .before .with-index .ensures) (inserting _ _ (moved-drop _ _ (s .pre) _ (d .remove .ensures .call)) (λ o. refl) (removed-held _ _ (s .pre) _ (d .remove .ensures)) (omega (arith, s .good)) _ (i .insert .ensures))))

@@ -1,7 +1,10 @@
-use mathlib.Core.Path.{refl}
+use mathlib.Core.Path.{refl, sym, _∙_}
+use native.Mathlib.Omega.{arith}
 use Rattle.binary_heap.proofs.Limits.{unfit, fitting}
 use Rattle.expiring.proofs.Acting.{acting-full}
 use Rattle.expiring.proofs.Calling.{inserting, unset-beyond, set-within}
+use Rattle.expiring.proofs.Moving.{index-kept}
+use Rattle.expiring.proofs.Valuing.{dating, set-held}
 use borrow.Author.Needs.{needs}
 use Rattle.expiring.proofs.expiring.Expiring.insert_until.Statement.{statement}
 use Rattle.expiring.proofs.expiring.Expiring.insert_until.Tie as tie
@@ -10,11 +13,37 @@ pub insert-until-spec : {M : Type 1} → statement M
 insert-until-spec =
     tie.close
     (tie.spec
+    (λ c. search needs)
+    (λ c. search needs)
+    (λ c. search needs)
+    (λ c. search needs)
+    (λ c. search needs)
+    (λ c. search needs)
     (λ c κs. search needs)
     (λ c κs. search needs)
     (λ c κs. search needs)
     (λ c. search needs)
-    (λ c. let i = c .before in let d = i .before .before .before .before .set-deadline .ensures in let n = unfit refl (i .if1 .taken) in rw (c .refused .ensures) (acting-full _ _ (d .refused n) (unset-beyond d n)))
+    (λ c.
+    let a = c .before .before in
+    let d = a .before .before .before in
+    let o = dating _ _ (d .before .before .before .before .pre) _ _ (d .set-deadline .ensures) (a .is-accepted .ensures) in
+    let n = unfit refl (c .before .if1 .taken) in
+    rw (c .refused .ensures) (acting-full _ _ (o .refused n) (unset-beyond o n)))
     (λ c κs. search needs)
-    (λ c. search needs)
-    (λ c. let p = c .before .before in let i = p .before .before .before in let s = i .before .before .before .before in let d = s .set-deadline .ensures in let y = fitting refl (i .if1 .left) in inserting (d .moved y) (set-within d y) (s .before .before .is-expired .ensures) (p .put-within .ensures)))
+    (λ c κs. search needs)
+    (λ c κs. search needs)
+    (λ c κs. search needs)
+    (λ c.
+    let i = c .before .before .before .before .before .before in
+    let d = i .before .before .before .before .before .before .before in
+    i .insert .ensures .kept .size ∙ index-kept _ (d .before .before .before .before .args .self) (d .before .before .before .before .pre) (d .set-deadline .result .index) (d .set-deadline .ensures .kept) .size)
+    (λ c.
+    let l = c .before in
+    let i = l .before .before .before .before .before in
+    let e = i .before .before .before in
+    let a = e .before in
+    let d = a .before .before .before in
+    let s = d .before .before .before .before in
+    let o = dating _ _ (s .pre) _ _ (d .set-deadline .ensures) (a .is-accepted .ensures) in
+    let y = fitting refl (e .if1 .left) in
+    rw (c .concluded .ensures, l .with-list .ensures, l .before .with-index .ensures) (inserting _ _ (o .moved y) (set-within o y) (set-held _ _ (s .pre) _ _ (d .set-deadline .ensures) (sym (a .is-accepted .ensures) ∙ y)) (omega (arith, s .good)) _ (i .insert .ensures))))
