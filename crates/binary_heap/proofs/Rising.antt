@@ -1,10 +1,10 @@
 -- An entry that goes up. All but it against its parent is in order, and its children are not before its parent: a swap with
 -- the parent leaves the same to be said one level up.
 use mathlib.Core.Path.{_≡_, refl, sym, ap, _∙_}
-use mathlib.Core.Bool.{true}
+use mathlib.Core.Bool.{true, false, true≢false}
 use mathlib.Core.Logic.{_≢_}
 use mathlib.Core.List.{List}
-use Prim.Native.Nat.{ℕ, _+_, _*_, _<_, _≤_}
+use Prim.Native.Nat.{ℕ, zero, suc, _+_, _*_, _<_, _≤_}
 use native.Mathlib.Omega.{arith}
 use native.Mathlib.Decide.{ℕ-discrete}
 use lib.ListN.{length, getD}
@@ -28,8 +28,17 @@ pub record Risen (ws ws′ : List ℕ) (i : ℕ) : Type 0 where
   pub counts : (e : Entry) (n : ℕ) → i < n → count e (entriesOf ws′ n) ≡ count e (entriesOf ws n)
   pub ordered : (n : ℕ) → i < n → OrderedBut ws n i → Ordered ws′ n
 
-pub at-root : (ws : List ℕ) (i : ℕ) → i ≡ 0 → Rises ws i ws
-at-root ws i q = stays (le-at (ap (entryAt ws) (let e : parent i ≡ i = omega arith in e)) refl (le-same (entryAt ws i)))
+-- the root counts as its own parent
+pub root-in-order : (ws : List ℕ) (i : ℕ) → i ≡ 0 → le (entryAt ws (parent i)) (entryAt ws i) ≡ true
+root-in-order ws i q = le-at (ap (entryAt ws) (let e : parent i ≡ i = omega arith in e)) refl (le-same (entryAt ws i))
+
+pub not-root : (ws : List ℕ) (i : ℕ) → le (entryAt ws (parent i)) (entryAt ws i) ≡ false → 0 < i
+not-root ws zero h = absurd (true≢false (sym (root-in-order ws 0 refl) ∙ h))
+not-root ws (suc i) h = omega arith
+
+-- up a level, and on from there
+pub rises-on : {ws vs ws′ : List ℕ} {i : ℕ} → le (entryAt ws (parent i)) (entryAt ws i) ≡ false → vs ≡ swapAt ws i (parent i) → Rises vs (parent i) ws′ → Rises ws i ws′
+rises-on {ws} {i = i} h q r = climbs (not-root ws i h) h (rw q at r)
 
 -- where it stops
 stopped : (ws : List ℕ) (n i : ℕ) → le (entryAt ws (parent i)) (entryAt ws i) ≡ true → OrderedBut ws n i → Ordered ws n

@@ -1,26 +1,45 @@
 // An entry moves to its level, one level a call. A level's work is a swap.
 ghost use mathlib.Core.Path.{_≡_};
+ghost use mathlib.Core.Bool.{false, not};
 ghost use Prim.Native.Nat.{_+_, _*_, _≤_, _<_};
 ghost use lib.ListN.{length};
-ghost use Rattle.binary_heap.specs.Entries.{Holds};
-ghost use Rattle.binary_heap.specs.Heap.{Room};
+ghost use Rattle.binary_heap.specs.Order.{le};
+ghost use Rattle.binary_heap.specs.Entries.{Holds, entryAt};
+ghost use Rattle.binary_heap.specs.Heap.{Room, parent};
 ghost use Rattle.binary_heap.specs.Sifts.{Rises, Sinks, childOf};
 use crate::entries;
+
+// Whether entry i has a parent that is after it.
+fn rises(words: &[u64], i: usize) -> bool
+    requires { ⌜ Holds (length (now words)) i ⌝ }
+    ensures { λ r. ⌜ r ≡ not (le (entryAt (now (words .entry)) (parent i)) (entryAt (now (words .entry)) i)) ⌝ }
+{
+    if i == 0 {
+        return false;
+    }
+    !entries::in_order(words, (i - 1) / 2, i)
+}
 
 // Entry i goes up while its parent is after it.
 pub fn sift_up(words: &mut [u64], i: usize)
     requires { ⌜ Holds (length (now words)) i ⌝ }
     ensures { λ _. ⌜ Rises (now (words .entry)) i (now (words .exit)) ⌝ }
 {
-    if i == 0 {
-        return;
+    if rises(words, i) {
+        climb(words, i);
     }
+}
+
+// Entry i, whose parent is after it, goes up a level, and on from there.
+fn climb(words: &mut [u64], i: usize)
+    requires { ⌜ Holds (length (now words)) i × (le (entryAt (now words) (parent i)) (entryAt (now words) i) ≡ false) ⌝ }
+    ensures { λ _. ⌜ Rises (now (words .entry)) i (now (words .exit)) ⌝ }
+{
     let p = (i - 1) / 2;
-    if entries::in_order(words, p, i) {
-        return;
-    }
     entries::swap(words, i, p);
-    sift_up(words, p);
+    if rises(words, p) {
+        climb(words, p);
+    }
 }
 
 // The child of entry i, which has one, that is not after the other.
