@@ -17,7 +17,7 @@ use Rattle.binary_heap.proofs.Words.{entry-kept}
 use Rattle.binary_heap.proofs.Places.{entries-length, entries-same, count-place, place-count}
 use Rattle.binary_heap.proofs.Least.{sort-least}
 -- lists of entries
-pub use Rattle.binary_heap.proofs.Order.{le-same, le-then, le-total, le-both}
+pub use Rattle.binary_heap.proofs.Order.{le-scores, le-same, le-then, le-total, le-both}
 pub use Rattle.binary_heap.proofs.Counts.{mem-count, count-mem}
 pub use Rattle.binary_heap.proofs.Sorting.{insert-length, insert-count, insert-cases, insert-new, insert-old, insert-least, insert-sorted, insert-swap}
 pub use Rattle.binary_heap.proofs.Sorting.{sort-length, sort-count, sort-mem, mem-sort, sort-sorted, sort-same, sorted-same}

@@ -83,6 +83,9 @@ module _ {a b : Entry} where
   unfolding le
   to-le l = to-lex _ _ _ (l .scores) (λ e. to-lex _ _ _ (l .seqs e) (λ f. le-leb _ _ (l .keys e f)))
 
+pub le-scores : (a b : Entry) → le a b ≡ true → a .score ≤ b .score
+le-scores a b h = let l : Le a b = facts h in l .scores
+
 pub le-same : (a : Entry) → le a a ≡ true
 le-same a = to-le (record { scores = omega arith; seqs = λ e. omega arith; keys = λ e f. omega arith })
 

@@ -34,11 +34,11 @@ best-accepted : (t : Top) → ofBest (bestOf t) ≡ Done
 best-accepted (top.Entry e) = refl
 best-accepted top.Nothing = refl
 
-first-none : (l : List Entry) → first l ≡ top.Nothing → l ≡ []
+pub first-none : (l : List Entry) → first l ≡ top.Nothing → l ≡ []
 first-none [] q = refl
 first-none (e ∷ l) q = absurd (let z : _≡_ {A = ℕ} 0 1 = cc in omega arith)
 
-first-some : (l : List Entry) (e : Entry) → first l ≡ top.Entry e → l ≡ e ∷ rest l
+pub first-some : (l : List Entry) (e : Entry) → first l ≡ top.Entry e → l ≡ e ∷ rest l
 first-some [] e q = absurd (let z : _≡_ {A = ℕ} 0 1 = cc in omega arith)
 first-some (x ∷ l) e q = let same : x ≡ e = cc in ap (λ (y : Entry). y ∷ l) same
 

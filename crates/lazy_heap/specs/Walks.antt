@@ -15,13 +15,17 @@ use Rattle.linked_hash_map.specs.declared.map.Slot.the-variants as slot
 use Rattle.linked_hash_map.specs.Map as map
 use Rattle.lazy_heap.specs.declared.heap.LazyMinHeap.{LazyMinHeap}
 use Rattle.lazy_heap.specs.Words.{part}
-use Rattle.lazy_heap.specs.Model.{entryOf, live, countAtMost}
+use Rattle.lazy_heap.specs.Model.{entryOf, live, countAtMost, atMost}
 use Rattle.lazy_heap.specs.Valid.{Falling, Valid}
 use Rattle.lazy_heap.specs.Heap.{modelOf, Parts}
 
 -- `count_at_most`
 pub record CountingAtMost (ws : List ℕ) (m : LinkedHashMap) (score r : ℕ) : Type 0 where
   pub answer : map.IsMap ws m → r ≡ countAtMost score (map.modelOf ws m)
+
+-- `count_within`
+pub record CountingWithin (ws : List ℕ) (h : LazyMinHeap) (score r : ℕ) : Type 0 where
+  pub answer : Parts ws h → Valid (modelOf ws h) → r ≡ atMost score (modelOf ws h)
 
 -- `live_slot`: the slot of the key whose live entry this is, and none for a stale one
 pub record LivingAt (ws : List ℕ) (m : LinkedHashMap) (e : Entry) (r : Slot) : Type 0 where

@@ -6,7 +6,7 @@ ghost use Rattle.lazy_heap.specs.Words.{limitsOf, limitsWith, Room};
 ghost use Rattle.lazy_heap.specs.Model.{atLeastOne, heldScore, factorOf, len, heapLen, atMost};
 ghost use Rattle.lazy_heap.specs.Calls.{Opening, Resetting, Asking, AskingEmpty, Scoring, Removing, PeekingBest, PoppingBest, RebuildingNow, RebuildingMaybe, RenumberingNow, Clearing, Updating, Checking};
 ghost use Rattle.lazy_heap.specs.Steps.{bestOf, Adding, Filling, after, replacedScore, Crowding, Living, Pushing, Popping, Peeking, Settled, Discarding, Rebuilding, Numbered, Renumbering, Fitting, Trimming, Holding};
-ghost use Rattle.lazy_heap.specs.Walks.{Sound, Agreeing};
+ghost use Rattle.lazy_heap.specs.Walks.{CountingWithin, Sound, Agreeing};
 use crate::walks;
 use crate::walks::slot_number;
 use binary_heap::Entry;
@@ -296,7 +296,7 @@ impl LazyMinHeap {
     {
         match limits(self.scores.capacity, words.len()) {
             Outcome::Refused(why) => Number::Refused(why),
-            Outcome::Done => Number::Value(walks::count_at_most(words, self.scores, score)),
+            Outcome::Done => Number::Value(self.count_within(words, score)),
         }
     }
 
@@ -596,6 +596,23 @@ impl LazyMinHeap {
             left -= 1;
         }
         Step { heap, discarded }
+    }
+
+    // How many keys hold at most this score. Each has an entry, and no entry's score is below that of the first, live or
+    // stale: where that is above this one the answer is 0, without a walk.
+    fn count_within(self, words: &[u64], score: u64) -> usize
+        requires { ⌜ Room (length (now words)) (self .scores .capacity) ⌝ }
+        ensures { λ r. ⌜ CountingWithin (now (words .entry)) self score r ⌝ }
+    {
+        match self.top(words) {
+            Top::Entry(e) => {
+                if score < e.score {
+                    return 0;
+                }
+                walks::count_at_most(words, self.scores, score)
+            }
+            Top::Nothing => 0,
+        }
     }
 
     // ---- rebuilding and renumbering

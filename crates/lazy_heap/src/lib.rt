@@ -9,7 +9,7 @@
 // or all at once when there are too many.
 //
 // An update, and a pop of each entry, takes logarithmic time; the rest is constant but for `rebuild`, `renumber_seqs`,
-// `clear`, `count_at_most`, `check` and opening.
+// `clear`, `check`, opening, and `count_at_most` where the first entry's score is not above the one given.
 mod heap;
 mod walks;
 
