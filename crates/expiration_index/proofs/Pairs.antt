@@ -14,6 +14,7 @@ use Rattle.linked_hash_map.specs.declared.map.Record.{Record}
 use Rattle.linked_hash_map.specs.declared.map.Taken.{Taken}
 use Rattle.linked_hash_map.specs.declared.map.Taken.the-variants as taken
 use Rattle.linked_hash_map.specs.Model as held
+use Rattle.linked_hash_map.proofs.Laws.{without-none}
 use Rattle.lazy_heap.specs.Model.{Heap, countAtMost, atMost, heldScore, tooMany, rebuilt, numbered, renumbered, beforePush, pushed, maybeRebuilt, updated, removed, peeked, cleared, opened}
 use Rattle.lazy_heap.specs.Model as lazy
 use Rattle.expiration_index.specs.declared.answers.Deadline.the-variants as deadline
@@ -184,15 +185,6 @@ none-held k (p ∷ l) e = go (eqb (p .key) k) e (none-held k l)
     go : (b : Bool) → model.deadlineIn (cond b (some p) (lookup k l)) ≡ deadline.Nothing → (model.deadlineIn (lookup k l) ≡ deadline.Nothing → has k l ≡ false) → (b || has k l) ≡ false
     go true q ih = absurd (let z : _≡_ {A = ℕ} 0 1 = cc in omega arith)
     go false q ih = ih q
-
-without-none : (k : ℕ) (l : held.Model) → held.has k l ≡ false → held.without k l ≡ l
-unfolding held.has held.without
-without-none k [] e = refl
-without-none k (r ∷ l) e = go (eqb (r .key) k) e (without-none k l)
-  where
-    go : (b : Bool) → (b || held.has k l) ≡ false → (held.has k l ≡ false → held.without k l ≡ l) → cond b (held.without k l) (r ∷ held.without k l) ≡ r ∷ l
-    go true q ih = absurd (true≢false q)
-    go false q ih = ap (λ (m : held.Model). r ∷ m) (ih q)
 
 pub removed-none : (k : ℕ) (m : Heap) → deadlineOf k (deadlines m) ≡ deadline.Nothing → removed k m ≡ m
 unfolding removed deadlines

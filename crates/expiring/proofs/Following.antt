@@ -30,7 +30,6 @@ use Rattle.fast_lru.specs.declared.answers.Opened.{Opened}
 use Rattle.fast_lru.specs.Model.{Item, toFront, popped, last, oldestOf}
 use Rattle.fast_lru.specs.Model as list
 use Rattle.fast_lru.specs.Calls as lru
-use Rattle.fast_lru.proofs.Laws.{list-admitted}
 use Rattle.expiration_index.specs.declared.answers.Deadline.{Deadline}
 use Rattle.expiration_index.specs.declared.answers.Deadline.the-variants as deadline
 use Rattle.expiration_index.specs.declared.answers.Due.{Due}
@@ -188,7 +187,7 @@ module _ (ws : List ℕ) (b : Expiring) (t : Tick) (limits : limitsOf (capacityO
   unfolding changeOf storedAfter expiredBy answered badNanos modelOf
   follow-clear {ws₁} {ws₂} {r} a m =
       follow ws b t clear limits refl
-      (acting (moved-then (moved-list b (r .lru) (a .capacity) (a .kept) (λ s. []) (λ is. a .list (list-admitted is)) (λ is. a .model (list-admitted is))) m) (λ o. refl) word done-accepted (λ o. refl) (λ o. refl) (λ o. refl))
+      (acting (moved-then (moved-list b (r .lru) (a .capacity) (a .kept) (λ s. []) (a .list) (a .model)) m) (λ o. refl) word done-accepted (λ o. refl) (λ o. refl) (λ o. refl))
       (λ o x y. refl) (λ o x y. refl) (λ o x y. refl) (λ o x y. refl)
 
   -- ---- `ttl_status`

@@ -68,22 +68,20 @@ clearing-refused ws l why p = record {
   refused = λ w e. let s : why ≡ w = cc in (ap (λ (y : Refusal). record { lru = l; answer = Refused y }) s, refl);
   answer = sym p;
   capacity = refl;
-  list = λ d. absurd (done d p);
-  model = λ d. absurd (done d p);
+  list = λ is. is;
+  model = λ is. absurd (done (list-admitted is) p);
   kept = kept-same (l .map .capacity) ws;
 }
 
 pub clearing-done : (ws : List ℕ) (l : FastLru) (ws′ : List ℕ) (r : map-opened.Opened) → admitted l (length ws) ≡ Done → calls.Clearing ws (l .map) ws′ r → Clearing ws l ws′ (record { lru = record { map = r .map }; answer = Done })
 unfolding modelOf
 clearing-done ws l ws′ r d o =
-    let f = admitted-fits l (length ws) d in
-    let h = fits-map f in
     record {
       refused = λ w e. absurd (done d e);
       answer = sym d;
       capacity = o .capacity;
-      list = λ q. record { map = o .map h; words = omega (arith, o .capacity, o .kept .size, f .words) };
-      model = λ q. ap items (o .model h);
+      list = λ is. record { map = o .map (is .map); words = omega (arith, o .capacity, o .kept .size, is .words) };
+      model = λ is. ap items (o .model (is .map));
       kept = kept-map (o .kept);
     }
 

@@ -5,15 +5,13 @@ use Prim.Native.Nat.{ℕ, _+_, _<_, _≤_}
 use native.Mathlib.Omega.{arith}
 use lib.ListN.{length, getD, drop, length-drop}
 use lib.Seq.{ext-getD, getD-drop}
-use Rattle.time.specs.declared.refusal.Outcome.the-variants.{Done}
 use Rattle.linked_hash_map.specs.Map as map
 use Rattle.linked_hash_map.proofs.Laws as laws
 use Rattle.fast_lru.specs.declared.lru.FastLru.{FastLru}
-use Rattle.fast_lru.specs.Refusals.{wordsFor, admitted}
+use Rattle.fast_lru.specs.Refusals.{wordsFor}
 use Rattle.fast_lru.specs.Model.{Distinct}
 use Rattle.fast_lru.specs.Lru.{IsList, items, modelOf, Kept}
 use Rattle.fast_lru.proofs.Items.{distinct-items}
-use Rattle.fast_lru.proofs.Limits as limits
 use Rattle.fast_lru.proofs.Slots as slots
 
 -- the model has as many items as the numbers say
@@ -21,10 +19,6 @@ pub model-length : (ws : List ℕ) (l : FastLru) → length (modelOf ws l) ≡ l
 model-length = slots.model-length
 
 module _ {ws : List ℕ} {l : FastLru} (is : IsList ws l) where
-  -- no call is refused on a list
-  pub list-admitted : admitted l (length ws) ≡ Done
-  list-admitted = limits.list-admitted is
-
   pub list-limit : l .map .capacity ≤ 4096
   list-limit = is .map .room .limit
 

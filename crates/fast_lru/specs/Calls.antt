@@ -36,13 +36,13 @@ pub record Opening (ws : List ℕ) (c : ℕ) (ws′ : List ℕ) (r : Opened) : T
   pub model : opening c (length ws) ≡ Done → modelOf ws′ (r .lru) ≡ []
   pub kept : Kept c ws ws′
 
--- `clear`: the empty list of the same capacity
+-- `clear`: the empty list of the same capacity. Words that are no list need not become one: that is what `new` does.
 pub record Clearing (ws : List ℕ) (l : FastLru) (ws′ : List ℕ) (r : Opened) : Type 0 where
   pub refused : (why : Refusal) → admitted l (length ws) ≡ Refused why → (r ≡ record { lru = l; answer = Refused why }) × (ws′ ≡ ws)
   pub answer : r .answer ≡ admitted l (length ws)
   pub capacity : r .lru .map .capacity ≡ l .map .capacity
-  pub list : admitted l (length ws) ≡ Done → IsList ws′ (r .lru)
-  pub model : admitted l (length ws) ≡ Done → modelOf ws′ (r .lru) ≡ []
+  pub list : IsList ws l → IsList ws′ (r .lru)
+  pub model : IsList ws l → modelOf ws′ (r .lru) ≡ []
   pub kept : Kept (l .map .capacity) ws ws′
 
 -- `len`

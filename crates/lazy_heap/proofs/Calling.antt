@@ -247,17 +247,14 @@ module _ {ws ws′ : List ℕ} (h : LazyMinHeap) {r : mapOpened.Opened} (t : lim
   pub clear-call : {d : ℕ} → d ≡ h .entries - h .scores .len → Call ws h (limitsOf (h .scores .capacity) (length ws)) Done cleared surplus ws′ emptied d
   unfolding cleared
   clear-call d =
-      call-done refl t (λ is. heap-again parts model (fair-cleared (fair-heap is))) (λ is. model) (λ is. d ∙ sym (surplus-is ws h)) (o .capacity)
+      call-done refl t (λ is. heap-again (parts (is .parts)) (model (is .parts)) (fair-cleared (fair-heap is))) (λ is. model (is .parts)) (λ is. d ∙ sym (surplus-is ws h)) (o .capacity)
       (record { size = o .kept .size; past = λ j b. o .kept .past j (omega arith) })
     where
-      room : Room (length ws) (h .scores .capacity)
-      room = limits-room (h .scores .capacity) (length ws) t
+      parts : Parts ws h → Parts ws′ emptied
+      parts p = record { room = rw (o .capacity, o .kept .size) (p .room); scores = o .map (p .scores); entries = heap-none (part (r .map .capacity) ws′) }
 
-      parts : Parts ws′ emptied
-      parts = record { room = rw (o .capacity, o .kept .size) room; scores = o .map (fits room); entries = heap-none (part (r .map .capacity) ws′) }
-
-      model : modelOf ws′ emptied ≡ cleared (modelOf ws h)
-      model = same-heap (o .capacity) refl refl (o .model (fits room)) (model-none (part (r .map .capacity) ws′))
+      model : Parts ws h → modelOf ws′ emptied ≡ cleared (modelOf ws h)
+      model p = same-heap (o .capacity) refl refl (o .model (p .scores)) (model-none (part (r .map .capacity) ws′))
 
 -- ---- a key is taken out
 held-accepted : (t : Taken) → ofScore (heldScore t) ≡ Done

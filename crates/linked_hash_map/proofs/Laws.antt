@@ -1,9 +1,10 @@
 -- What the layers above cite: how slots, keys, places and the model go together, with the words out of sight.
-use mathlib.Core.Path.{_≡_, sym, ap, _∙_}
-use mathlib.Core.Bool.{true, false}
-use mathlib.Core.List.{List, List·Memᴰ}
+use mathlib.Core.Path.{_≡_, refl, sym, ap, _∙_}
+use mathlib.Core.Bool.{Bool, true, false, cond, _||_, true≢false}
+use mathlib.Core.List.{List, [], _∷_, List·Memᴰ}
 use Prim.Native.Nat.{ℕ, _+_, _*_, _<_, _≤_}
 use native.Mathlib.Omega.{arith}
+use lib.Dec.{eqb}
 use lib.ListN.{length, getD}
 use borrow.Author.Tests.{lt-ltb, le-ltb}
 use Rattle.rings.proofs.Two.{count-le-one, two-frame}
@@ -14,13 +15,23 @@ use Rattle.linked_hash_map.specs.declared.map.Record.{Record}
 use Rattle.linked_hash_map.specs.declared.map.Slot.the-variants as slot
 use Rattle.linked_hash_map.specs.declared.map.Taken.the-variants as taken
 use Rattle.linked_hash_map.specs.Words.{wordsFor, recordAt}
-use Rattle.linked_hash_map.specs.Model.{has, lookup, nth, Distinct}
+use Rattle.linked_hash_map.specs.Model.{Model, has, lookup, nth, without, Distinct}
 use Rattle.linked_hash_map.specs.Map.{IsMap, liveOf, freeOf, modelOf, slotIn, slotOf, slotAt}
 use Rattle.linked_hash_map.proofs.Records.{Search, found, missing, search-key, records, records-same, records-distinct, record-at, mem-at}
 use Rattle.linked_hash_map.proofs.Frames.{record-of-words}
 use Rattle.linked_hash_map.proofs.Laid.{Laid, of-map, to-map, live-is, live-below}
 use Rattle.linked_hash_map.proofs.Probed.{live-length}
 use Rattle.linked_hash_map.proofs.Finding.{place-slot}
+
+-- a key that is not held takes nothing out
+pub without-none : (k : ℕ) (l : Model) → has k l ≡ false → without k l ≡ l
+unfolding has without
+without-none k [] h = refl
+without-none k (r ∷ l) h = go (eqb (r .key) k) h (without-none k l)
+  where
+    go : (b : Bool) → (b || has k l) ≡ false → (has k l ≡ false → without k l ≡ l) → cond b (without k l) (r ∷ without k l) ≡ r ∷ l
+    go true q e = absurd (true≢false q)
+    go false q e = ap (λ (x : Model). r ∷ x) (e q)
 
 -- a key has a slot exactly where the model holds it
 pub data Keyed (ws : List ℕ) (m : LinkedHashMap) (k : ℕ) : Type 0 where

@@ -13,3 +13,4 @@ pub mod Opening
 pub mod Checking
 pub mod Steps
 pub mod Laws
+pub mod Draining

@@ -1,16 +1,18 @@
--- `open` and `clear`: the empty map, whatever the words held.
+-- `open` makes the empty map, whatever the words held, and `clear` of a map, by writing all words anew or by draining it.
 use mathlib.Core.Path.{_≡_, refl, sym, ap, _∙_}
 use mathlib.Core.Bool.{true, false, true≢false}
-use mathlib.Core.List.{List, [], map}
+use mathlib.Core.List.{List, [], _∷_, map}
 use Prim.Native.Nat.{ℕ}
 use native.Mathlib.Omega.{arith}
 use lib.ListN.{length}
 use Rattle.linked_hash_map.specs.declared.map.LinkedHashMap.{LinkedHashMap}
 use Rattle.linked_hash_map.specs.Words.{fit, recordAt, emptied}
 use Rattle.linked_hash_map.specs.Numbers.{emptyMap}
+use Rattle.linked_hash_map.specs.Model.{Model}
 use Rattle.linked_hash_map.specs.Map.{IsMap, modelOf}
-use Rattle.linked_hash_map.specs.Calls.{none, Opening, Clearing}
+use Rattle.linked_hash_map.specs.Calls.{none, Opening, Clearing, Draining}
 use Rattle.linked_hash_map.proofs.Limits.{is-room}
+use Rattle.linked_hash_map.proofs.Finding.{unfit}
 use Rattle.linked_hash_map.proofs.Laid.{to-map, live-is}
 use Rattle.linked_hash_map.proofs.Refill.{laid-emptied}
 use Rattle.linked_hash_map.proofs.Keeping.{kept-same, kept-emptied}
@@ -43,6 +45,10 @@ opening-refused ws n e = record {
   kept = kept-same n ws;
 }
 
+none-left : (l : Model) → length l ≡ 0 → l ≡ []
+none-left [] e = refl
+none-left (r ∷ l) e = absurd (omega arith)
+
 module _ (ws : List ℕ) (m : LinkedHashMap) where
   pub clearing : fit (m .capacity) (length ws) ≡ true → Clearing ws m (emptied ws (m .capacity)) (record { map = emptyMap (m .capacity); is_open = true })
   clearing f = record {
@@ -54,12 +60,22 @@ module _ (ws : List ℕ) (m : LinkedHashMap) where
     kept = kept-emptied (m .capacity) ws;
   }
 
+  pub clearing-drained : fit (m .capacity) (length ws) ≡ true → {ws′ : List ℕ} {r : LinkedHashMap} → Draining ws m 0 ws′ r → Clearing ws m ws′ (record { map = r; is_open = true })
+  clearing-drained f {ws′} {r} d = record {
+    refused = λ q. absurd (true≢false (sym f ∙ q));
+    opened = λ _. refl;
+    capacity = d .capacity;
+    map = d .map;
+    model = λ is. none-left (modelOf ws′ r) (d .left is);
+    kept = d .kept;
+  }
+
   pub clearing-refused : fit (m .capacity) (length ws) ≡ false → Clearing ws m ws (record { map = m; is_open = false })
   clearing-refused e = record {
     refused = λ _. (refl, refl);
     opened = λ q. absurd (true≢false (sym q ∙ e));
     capacity = refl;
-    map = λ q. absurd (true≢false (sym q ∙ e));
-    model = λ q. absurd (true≢false (sym q ∙ e));
+    map = λ is. absurd (unfit e is);
+    model = λ is. absurd (unfit e is);
     kept = kept-same (m .capacity) ws;
   }

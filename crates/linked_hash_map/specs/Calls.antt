@@ -30,13 +30,20 @@ pub record Opening (ws : List ℕ) (n : ℕ) (ws′ : List ℕ) (r : Opened) : T
   pub model : fit n (length ws) ≡ true → modelOf ws′ (r .map) ≡ []
   pub kept : Kept n ws ws′
 
--- `clear`: the empty map of the same capacity
+-- `clear`: the empty map of the same capacity. Words that are no map need not become one: that is what `open` does.
 pub record Clearing (ws : List ℕ) (m : LinkedHashMap) (ws′ : List ℕ) (r : Opened) : Type 0 where
   pub refused : fit (m .capacity) (length ws) ≡ false → (r ≡ record { map = m; is_open = false }) × (ws′ ≡ ws)
   pub opened : fit (m .capacity) (length ws) ≡ true → r .is_open ≡ true
   pub capacity : r .map .capacity ≡ m .capacity
-  pub map : fit (m .capacity) (length ws) ≡ true → IsMap ws′ (r .map)
-  pub model : fit (m .capacity) (length ws) ≡ true → modelOf ws′ (r .map) ≡ []
+  pub map : IsMap ws m → IsMap ws′ (r .map)
+  pub model : IsMap ws m → modelOf ws′ (r .map) ≡ []
+  pub kept : Kept (m .capacity) ws ws′
+
+-- records removed until k are left
+pub record Draining (ws : List ℕ) (m : LinkedHashMap) (k : ℕ) (ws′ : List ℕ) (r : LinkedHashMap) : Type 0 where
+  pub capacity : r .capacity ≡ m .capacity
+  pub map : IsMap ws m → IsMap ws′ r
+  pub left : IsMap ws m → length (modelOf ws′ r) ≡ k
   pub kept : Kept (m .capacity) ws ws′
 
 -- `find`: the slot of a key's record

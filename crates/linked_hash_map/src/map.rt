@@ -5,7 +5,7 @@ ghost use lib.ListN.{length};
 ghost use Rattle.cells.specs.Cells.{cellCount};
 ghost use Rattle.linked_hash_map.specs.Words.{fit, Room, Nodes, recordAt, written, emptied, refilled, replaced, takenOut};
 ghost use Rattle.linked_hash_map.specs.Numbers.{emptyMap, shrunkMap, slotFrom, lenAfter, Grown, Inserting, Renewing};
-ghost use Rattle.linked_hash_map.specs.Calls.{Opening, Clearing, Finding, Touching, Reading, Writing, Putting, Removing, Recycling, Ending, Next, Previous, Checking};
+ghost use Rattle.linked_hash_map.specs.Calls.{Opening, Clearing, Draining, Finding, Touching, Reading, Writing, Putting, Removing, Recycling, Ending, Next, Previous, Checking};
 use crate::check;
 use crate::index;
 use crate::links;
@@ -189,6 +189,7 @@ impl LinkedHashMap {
         }
     }
 
+    // The empty map. Few records are removed one by one, which costs less than to write all words anew.
     pub fn clear(self, words: &mut [u64]) -> Opened
         ensures { λ r. ⌜ Clearing (now (words .entry)) self (now (words .exit)) r ⌝ }
     {
@@ -199,10 +200,44 @@ impl LinkedHashMap {
                 is_open: false,
             };
         }
+        if self.len <= n / 8 {
+            return Opened {
+                map: self.drained(words),
+                is_open: true,
+            };
+        }
         empty_words(words, n);
         Opened {
             map: empty_map(n),
             is_open: true,
+        }
+    }
+
+    // The map with its records removed, the first one first. The turns are counted by the numbers, so that it ends on any
+    // words.
+    fn drained(self, words: &mut [u64]) -> LinkedHashMap
+        ensures { λ r. ⌜ Draining (now (words .entry)) self 0 (now (words .exit)) r ⌝ }
+    {
+        let mut map = self;
+        let mut left = self.len;
+        while 0 < left {
+            map = map.without_first(words);
+            left -= 1;
+        }
+        map
+    }
+
+    fn without_first(self, words: &mut [u64]) -> LinkedHashMap
+        ensures { λ r. ⌜ Draining (now (words .entry)) self (self .len - 1) (now (words .exit)) r ⌝ }
+    {
+        match self.first(words) {
+            Slot::At(s) => {
+                let front = self.record(words, s);
+                let removed = self.remove(words, front.key);
+                removed.map
+            }
+            Slot::Nothing => self,
+            Slot::Refused => self,
         }
     }
 

@@ -129,7 +129,7 @@ fn call_on_junk(numbers: &mut [u64; 3], words: &mut Guarded, call: Call) {
         assert_eq!(*numbers, numbers_before, "{call:?}");
     }
     match call {
-        Call::New(_) | Call::Clear => assert_empty(numbers, words),
+        Call::New(_) => assert_empty(numbers, words),
         Call::Check if cause_of(capacity, words_before.len()).is_some() => {
             assert_eq!(answer, Answer::No);
         }
@@ -138,7 +138,7 @@ fn call_on_junk(numbers: &mut [u64; 3], words: &mut Guarded, call: Call) {
     }
 }
 
-/// A list just opened or cleared is one, and works, whatever its words held.
+/// A list just opened is one, and works, whatever its words held.
 fn assert_empty(numbers: &mut [u64; 3], words: &mut Guarded) {
     let stored = match numbers[0] {
         0 => Answer::Nothing,

@@ -94,12 +94,12 @@ fn call_on_junk(numbers: &mut [u64; 3], words: &mut Guarded, call: Call) {
 
     match call {
         Call::Open(_) if !fits => assert_eq!(*numbers, [0; 3]),
-        Call::Open(_) | Call::Clear if fits => {
+        Call::Open(_) if fits => {
             assert_eq!(numbers[..2], [capacity, 0]);
             let check = replay(numbers, words.lent(), &[Call::Check]);
             assert_eq!(check, [Answer::Yes]);
         }
-        Call::Put(_) | Call::Remove(_) if fits => assert_eq!(numbers[0], capacity),
+        Call::Clear | Call::Put(_) | Call::Remove(_) if fits => assert_eq!(numbers[0], capacity),
         _ => assert_eq!(*numbers, numbers_before),
     }
     if let Call::Other(_) = call {
