@@ -2,19 +2,17 @@
 -- without room nothing is touched. A look leaves the model as it is.
 use mathlib.Core.Path.{_≡_, refl}
 use mathlib.Core.List.{List}
-use Prim.Native.Nat.{ℕ, _+_, _-_, _^_, _<_, _≤_, min}
+use Prim.Native.Nat.{ℕ, _<_, _≤_}
 use native.Mathlib.Omega.{arith}
 use lib.ListN.{length}
-use Rattle.lazy_heap.specs.Model.{Heap}
 use Rattle.expiring.specs.declared.answers.Reply.{Reply}
-use Rattle.expiring.specs.declared.expiring.Expiring.{Expiring}
-use Rattle.expiring.specs.Model.{Book, Call, contains, peek, ttlStatus, recencyRank, liveLen, expirations, peekLru, changeOf, pairsAfter, replacedBy, removedBy, storedAfter, expiredBy, badNanos, refusalOf, accepted, bookAfter}
-use Rattle.expiring.specs.Discards.{heapAfter, heapBy}
+use Rattle.expiring.specs.Model.{Call}
 use Rattle.expiring.specs.Calls.{Following}
 use Rattle.replay.specs.Runs.{withAnswer}
 use Rattle.replay_expiring.specs.Numbers.{bookIn, withBook}
 use Rattle.replay_expiring.specs.Runs.{ofReply}
 use Rattle.replay_expiring.proofs.Laws.{book-stored, book-past, book-size}
+use Rattle.replay_expiring.proofs.Steps.{Look, model-stays, heap-stays}
 use Rattle.hailtansy.specs.Calls.{Room, tickOf, told, Called, answered, Looked}
 
 module _ {ns out : List ℕ} where
@@ -45,45 +43,9 @@ module _ {ns ws out : List ℕ} {t : ℕ} {c : Call} where
   })
 
 -- ---- a look
-pub data Look : Call → Type 0 where
-  at-contains : {k : ℕ} → Look (contains k)
-  at-peek : {k : ℕ} → Look (peek k)
-  at-ttl-status : {k : ℕ} → Look (ttlStatus k)
-  at-recency-rank : {k : ℕ} → Look (recencyRank k)
-  at-live-len : Look liveLen
-  at-expirations : Look expirations
-  at-peek-lru : Look peekLru
-
-same : (p : Book) → p .expirations < 2 ^ 64 → record { capacity = p .capacity; limit = p .limit; lifetime = p .lifetime; stored = p .stored; deadlines = p .deadlines; expirations = min (p .expirations + 0) (2 ^ 64 - 1); replaced = p .replaced + 0; removed = p .removed + 0 } ≡ p
-same p h =
-    let e : min (p .expirations + 0) (2 ^ 64 - 1) ≡ p .expirations = omega arith in
-    let r : p .replaced + 0 ≡ p .replaced = omega arith in
-    let m : p .removed + 0 ≡ p .removed = omega arith in
-    rw (e, r, m)
-
-model-stays : {c : Call} (t : ℕ) → Look c → (p : Book) → p .expirations < 2 ^ 64 → bookAfter (tickOf t) c p ≡ p
-unfolding bookAfter refusalOf badNanos changeOf accepted storedAfter pairsAfter replacedBy removedBy expiredBy
-model-stays t at-contains p h = same p h
-model-stays t at-peek p h = same p h
-model-stays t at-ttl-status p h = same p h
-model-stays t at-recency-rank p h = same p h
-model-stays t at-live-len p h = same p h
-model-stays t at-expirations p h = same p h
-model-stays t at-peek-lru p h = same p h
-
-heap-stays : {c : Call} (t : ℕ) → Look c → (p : Book) (h : Heap) → heapBy (tickOf t) c p h ≡ h
-unfolding heapBy heapAfter refusalOf badNanos changeOf
-heap-stays t at-contains p h = refl
-heap-stays t at-peek p h = refl
-heap-stays t at-ttl-status p h = refl
-heap-stays t at-recency-rank p h = refl
-heap-stays t at-live-len p h = refl
-heap-stays t at-expirations p h = refl
-heap-stays t at-peek-lru p h = refl
-
 module _ {ns ws out : List ℕ} {t : ℕ} {c : Call} (look : Look c) where
   not-looked : (Room ns out → ⊥) → Looked ns ws t c out out 0
-  not-looked none = record { few = λ _. (refl, refl); ran = λ room. absurd (none room); reply = λ room. absurd (none room); model = model-stays t look; heap = heap-stays t look }
+  not-looked none = record { few = λ _. (refl, refl); ran = λ room. absurd (none room); reply = λ room. absurd (none room); model = model-stays (tickOf t) look; heap = heap-stays (tickOf t) look }
 
   pub unseen-numbers : length ns < 12 → Looked ns ws t c out out 0
   unseen-numbers h = not-looked (few-numbers h)
@@ -96,6 +58,6 @@ module _ {ns ws out : List ℕ} {t : ℕ} {c : Call} (look : Look c) where
     few = λ none. absurd (none (record { numbers = h; answer = g }));
     ran = λ _. refl;
     reply = λ _. answered o;
-    model = model-stays t look;
-    heap = heap-stays t look;
+    model = model-stays (tickOf t) look;
+    heap = heap-stays (tickOf t) look;
   })

@@ -7,7 +7,6 @@ use Rattle.time.specs.declared.refusal.Outcome.{Outcome}
 use Rattle.lazy_heap.specs.Model.{heapLen}
 use Rattle.expiring.specs.declared.answers.Answer.{Answer}
 use Rattle.expiring.specs.declared.answers.Reply.{Reply}
-use Rattle.expiring.specs.declared.expiring.Expiring.{Expiring}
 use Rattle.expiring.specs.declared.expiring.DefaultDuration.{DefaultDuration}
 use Rattle.expiring.specs.Model.{Book}
 use Rattle.expiring.specs.Book.{IsBook, heapOf, modelOf}
@@ -17,8 +16,8 @@ use Rattle.replay.specs.declared.answer.Answer as replay
 use Rattle.replay.specs.Answers.{words}
 use Rattle.replay.specs.Runs.{withAnswer}
 use Rattle.replay_expiring.specs.declared.call.Asked.{Asked}
-use Rattle.replay_expiring.specs.Numbers.{bookIn}
-use Rattle.replay_expiring.specs.Words.{operations, askedAt, callIn, defaultOf, ofAnswer, ofOutcome}
+use Rattle.replay_expiring.specs.Numbers.{bookIn, withBook}
+use Rattle.replay_expiring.specs.Words.{operations, changing, askedAt, callIn, defaultOf, ofAnswer, ofOutcome}
 
 -- ---- a list of calls
 -- how many calls there are with room for an answer
@@ -28,15 +27,17 @@ roomIn cs out = min (length cs / 6) (length out / 4)
 abbrev pub ofReply : Reply → replay.Answer
 ofReply r = ofAnswer (r .answer) (r .discarded)
 
--- one call, as the book's call promises, with its answer written as the i-th: from the words ws, the book b and the answers out
--- to the three after it
-pub data Turn (a : Asked) (i : ℕ) (ws : List ℕ) (b : Expiring) (out : List ℕ) : List ℕ → Expiring → List ℕ → Type 0 where
-  turn : {ws′ : List ℕ} {r : Reply} → Following ws b (a .tick) (callIn a) ws′ r → Turn a i ws b out ws′ (r .book) (withAnswer out i (ofReply r))
+-- one call, as the book's call promises, on the book that the numbers tell, with its answer written as the i-th: from the numbers
+-- ns, the words ws and the answers out to the three after it. A call that may change the book leaves the numbers of its reply; a
+-- look leaves numbers and words as they are.
+pub data Turn (a : Asked) (i : ℕ) (ns ws out : List ℕ) : List ℕ → List ℕ → List ℕ → Type 0 where
+  changed : {ws′ : List ℕ} {r : Reply} → a .operation < changing → Following ws (bookIn ns) (a .tick) (callIn a) ws′ r → Turn a i ns ws out (withBook ns (r .book)) ws′ (withAnswer out i (ofReply r))
+  looked : {r : Reply} → changing ≤ a .operation → Following ws (bookIn ns) (a .tick) (callIn a) ws r → Turn a i ns ws out ns ws (withAnswer out i (ofReply r))
 
 -- the first k calls, each on what the one before left
-pub data Run (cs ws : List ℕ) (b : Expiring) (out : List ℕ) : ℕ → List ℕ → Expiring → List ℕ → Type 0 where
-  none : Run cs ws b out 0 ws b out
-  more : {k : ℕ} {ws′ ws″ : List ℕ} {b′ b″ : Expiring} {out′ out″ : List ℕ} → Run cs ws b out k ws′ b′ out′ → Turn (askedAt cs k) k ws′ b′ out′ ws″ b″ out″ → Run cs ws b out (k + 1) ws″ b″ out″
+pub data Run (cs ns ws out : List ℕ) : ℕ → List ℕ → List ℕ → List ℕ → Type 0 where
+  none : Run cs ns ws out 0 ns ws out
+  more : {k : ℕ} {ns′ ws′ out′ ns″ ws″ out″ : List ℕ} → Run cs ns ws out k ns′ ws′ out′ → Turn (askedAt cs k) k ns′ ws′ out′ ns″ ws″ out″ → Run cs ns ws out (k + 1) ns″ ws″ out″
 
 -- k calls of which each has room for its answer; the next has none, or is none
 pub record Ended (cs : List ℕ) (room k : ℕ) : Type 0 where
@@ -47,7 +48,7 @@ pub record Ended (cs : List ℕ) (room k : ℕ) : Type 0 where
 pub record Replayed (ns ws cs out ns′ ws′ out′ : List ℕ) (k : ℕ) : Type 0 where
   pub few : length ns < 12 → (k ≡ 0) × (ns′ ≡ ns) × (ws′ ≡ ws) × (out′ ≡ out)
   pub ended : 12 ≤ length ns → Ended cs (roomIn cs out) k
-  pub run : 12 ≤ length ns → Run cs ws (bookIn ns) out k ws′ (bookIn ns′) out′
+  pub run : 12 ≤ length ns → Run cs ns ws out k ns′ ws′ out′
   pub past : (j : ℕ) → 12 ≤ j → getD ns′ j 0 ≡ getD ns j 0
 
 -- ---- an opening

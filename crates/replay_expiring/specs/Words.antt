@@ -33,6 +33,10 @@ askedAt cs i = record {
 abbrev pub operations : ℕ
 operations = 17
 
+-- how many of them, the first, may change the book; the others look
+abbrev pub changing : ℕ
+changing = 10
+
 -- the call of each operation
 unfoldable pub callOf : ℕ → ℕ → ℕ → Duration → Call
 callOf o k v d =

@@ -3,8 +3,9 @@ ghost use mathlib.Core.Path.{_≡_};
 ghost use Prim.Native.Nat.{_+_, _*_, _<_, _≤_};
 ghost use lib.ListN.{length};
 ghost use Rattle.expiring.specs.Calls.{Following};
-ghost use Rattle.replay_expiring.specs.Words.{askedAt, callIn, operations};
-use expiring::Expiring;
+ghost use Rattle.replay_expiring.specs.Numbers.{bookIn};
+ghost use Rattle.replay_expiring.specs.Words.{askedAt, callIn, operations, changing};
+use crate::numbers;
 use expiring::Reply;
 use time::Duration;
 use time::Tick;
@@ -33,24 +34,22 @@ pub fn asked_at(calls: &[u64], i: usize) -> Asked
     }
 }
 
-pub fn step(words: &mut [u64], book: Expiring, call: Asked) -> Reply
-    requires { ⌜ call .operation < operations ⌝ }
-    ensures { λ r. ⌜ Following (now (words .entry)) book (call .tick) (callIn call) (now (words .exit)) r ⌝ }
+// A call that may change the book that the numbers tell.
+pub fn change(numbers: &[u64], words: &mut [u64], call: Asked) -> Reply
+    requires { ⌜ (12 ≤ length (now numbers)) × (call .operation < changing) ⌝ }
+    ensures { λ r. ⌜ Following (now (words .entry)) (bookIn (now (numbers .entry))) (call .tick) (callIn call) (now (words .exit)) r ⌝ }
 {
     let operation = call.operation;
     if operation < 5 {
-        return store(words, book, call);
+        return store(numbers, words, call);
     }
-    if operation < 10 {
-        return tend(words, book, call);
-    }
-    look(words, book, call)
+    tend(numbers, words, call)
 }
 
-// What is stored.
-fn store(words: &mut [u64], book: Expiring, call: Asked) -> Reply
-    requires { ⌜ call .operation < 5 ⌝ }
-    ensures { λ r. ⌜ Following (now (words .entry)) book (call .tick) (callIn call) (now (words .exit)) r ⌝ }
+// What is stored. Each arm reads the book itself: one that was read before would be copied for the call.
+fn store(numbers: &[u64], words: &mut [u64], call: Asked) -> Reply
+    requires { ⌜ (12 ≤ length (now numbers)) × (call .operation < 5) ⌝ }
+    ensures { λ r. ⌜ Following (now (words .entry)) (bookIn (now (numbers .entry))) (call .tick) (callIn call) (now (words .exit)) r ⌝ }
 {
     let operation = call.operation;
     let tick = call.tick;
@@ -58,47 +57,47 @@ fn store(words: &mut [u64], book: Expiring, call: Asked) -> Reply
     let value = call.value;
     let ttl = call.ttl;
     match operation {
-        0 => book.insert(words, tick, key, value),
-        1 => book.insert_with_ttl(words, tick, key, value, ttl),
-        2 => book.get(words, tick, key),
-        3 => book.remove(words, tick, key),
-        _ => book.clear(words, tick),
+        0 => numbers::book_in(numbers).insert(words, tick, key, value),
+        1 => numbers::book_in(numbers).insert_with_ttl(words, tick, key, value, ttl),
+        2 => numbers::book_in(numbers).get(words, tick, key),
+        3 => numbers::book_in(numbers).remove(words, tick, key),
+        _ => numbers::book_in(numbers).clear(words, tick),
     }
 }
 
 // Lifetimes, and the order of the list.
-fn tend(words: &mut [u64], book: Expiring, call: Asked) -> Reply
-    requires { ⌜ (5 ≤ call .operation) × (call .operation < 10) ⌝ }
-    ensures { λ r. ⌜ Following (now (words .entry)) book (call .tick) (callIn call) (now (words .exit)) r ⌝ }
+fn tend(numbers: &[u64], words: &mut [u64], call: Asked) -> Reply
+    requires { ⌜ (12 ≤ length (now numbers)) × (5 ≤ call .operation) × (call .operation < changing) ⌝ }
+    ensures { λ r. ⌜ Following (now (words .entry)) (bookIn (now (numbers .entry))) (call .tick) (callIn call) (now (words .exit)) r ⌝ }
 {
     let operation = call.operation;
     let tick = call.tick;
     let key = call.key;
     let ttl = call.ttl;
     match operation {
-        5 => book.set_ttl(words, tick, key, ttl),
-        6 => book.purge_expired(words, tick),
-        7 => book.next_deadline(words, tick),
-        8 => book.touch(words, tick, key),
-        _ => book.pop_lru(words, tick),
+        5 => numbers::book_in(numbers).set_ttl(words, tick, key, ttl),
+        6 => numbers::book_in(numbers).purge_expired(words, tick),
+        7 => numbers::book_in(numbers).next_deadline(words, tick),
+        8 => numbers::book_in(numbers).touch(words, tick, key),
+        _ => numbers::book_in(numbers).pop_lru(words, tick),
     }
 }
 
-// Looks, and changes nothing.
-fn look(words: &[u64], book: Expiring, call: Asked) -> Reply
-    requires { ⌜ (10 ≤ call .operation) × (call .operation < operations) ⌝ }
-    ensures { λ r. ⌜ Following (now (words .entry)) book (call .tick) (callIn call) (now (words .entry)) r ⌝ }
+// A call that looks, and changes nothing.
+pub fn look(numbers: &[u64], words: &[u64], call: Asked) -> Reply
+    requires { ⌜ (12 ≤ length (now numbers)) × (changing ≤ call .operation) × (call .operation < operations) ⌝ }
+    ensures { λ r. ⌜ Following (now (words .entry)) (bookIn (now (numbers .entry))) (call .tick) (callIn call) (now (words .entry)) r ⌝ }
 {
     let operation = call.operation;
     let tick = call.tick;
     let key = call.key;
     match operation {
-        10 => book.contains(words, tick, key),
-        11 => book.peek(words, tick, key),
-        12 => book.ttl_status(words, tick, key),
-        13 => book.recency_rank(words, tick, key),
-        14 => book.live_len(words, tick),
-        15 => book.expirations(words, tick),
-        _ => book.peek_lru(words, tick),
+        10 => numbers::book_in(numbers).contains(words, tick, key),
+        11 => numbers::book_in(numbers).peek(words, tick, key),
+        12 => numbers::book_in(numbers).ttl_status(words, tick, key),
+        13 => numbers::book_in(numbers).recency_rank(words, tick, key),
+        14 => numbers::book_in(numbers).live_len(words, tick),
+        15 => numbers::book_in(numbers).expirations(words, tick),
+        _ => numbers::book_in(numbers).peek_lru(words, tick),
     }
 }

@@ -8,7 +8,6 @@ use crate::answer;
 use crate::call;
 use crate::call::Asked;
 use crate::numbers;
-use expiring::Expiring;
 
 // Runs the calls on the words, and on the book's numbers. Says how many calls it ran: as many as have room for an answer and
 // come before the first that is none, or 0 where there are fewer than twelve numbers.
@@ -24,22 +23,7 @@ pub extern "C" fn expiring_replay(
     if numbers.len() < 12 {
         return 0;
     }
-    let ran = run(
-        words,
-        numbers::book_in(numbers),
-        calls,
-        answers,
-        room(calls, answers),
-    );
-    let book = ran.book;
-    numbers::store_book(numbers, book);
-    ran.count as u64
-}
-
-// A book after some calls, and how many.
-struct Ran {
-    book: Expiring,
-    count: usize,
+    run(numbers, words, calls, answers, room(calls, answers)) as u64
 }
 
 // How many calls there are with room for an answer.
@@ -51,34 +35,50 @@ fn room(calls: &[u64], answers: &[u64]) -> usize
     if given < fitting { given } else { fitting }
 }
 
-fn run(words: &mut [u64], book: Expiring, calls: &[u64], answers: &mut [u64], room: usize) -> Ran
-    requires { ⌜ (6 * room ≤ length (now calls)) × (4 * room ≤ length (now answers)) ⌝ }
-    ensures { λ r. ⌜ Ended (now (calls .entry)) room (r .count) × Run (now (calls .entry)) (now (words .entry)) book (now (answers .entry)) (r .count) (now (words .exit)) (r .book) (now (answers .exit)) ⌝ }
+fn run(
+    numbers: &mut [u64],
+    words: &mut [u64],
+    calls: &[u64],
+    answers: &mut [u64],
+    room: usize,
+) -> usize
+    requires { ⌜ (12 ≤ length (now numbers)) × (6 * room ≤ length (now calls)) × (4 * room ≤ length (now answers)) ⌝ }
+    ensures { λ r. ⌜ Ended (now (calls .entry)) room r × Run (now (calls .entry)) (now (numbers .entry)) (now (words .entry)) (now (answers .entry)) r (now (numbers .exit)) (now (words .exit)) (now (answers .exit)) ⌝ }
 {
-    let mut book = book;
     let mut i = 0;
     while i < room {
         let call = call::asked_at(calls, i);
         if 16 < call.operation {
-            return Ran { book, count: i };
+            return i;
         }
-        book = turn(words, book, call, answers, i);
+        turn(numbers, words, call, answers, i);
         i += 1;
     }
-    Ran { book, count: i }
+    i
 }
 
-// Makes a call, and writes its answer as the i-th.
-fn turn(words: &mut [u64], book: Expiring, call: Asked, answers: &mut [u64], i: usize) -> Expiring
-    requires { ⌜ (call .operation < operations) × (4 * i + 4 ≤ length (now answers)) ⌝ }
-    ensures { λ r. ⌜ Turn call i (now (words .entry)) book (now (answers .entry)) (now (words .exit)) r (now (answers .exit)) ⌝ }
+// Makes a call, and writes its answer as the i-th. A look stores no numbers: they are the same.
+fn turn(numbers: &mut [u64], words: &mut [u64], call: Asked, answers: &mut [u64], i: usize)
+    requires { ⌜ (12 ≤ length (now numbers)) × (call .operation < operations) × (4 * i + 4 ≤ length (now answers)) ⌝ }
+    ensures { λ _. ⌜ Turn call i (now (numbers .entry)) (now (words .entry)) (now (answers .entry)) (now (numbers .exit)) (now (words .exit)) (now (answers .exit)) ⌝ }
 {
-    let reply = call::step(words, book, call);
+    if call.operation < 10 {
+        let reply = call::change(numbers, words, call);
+        let book = reply.book;
+        let answer = reply.answer;
+        numbers::store_book(numbers, book);
+        replay::store_answer(
+            answers,
+            i,
+            answer::of_answer(answer, reply.discarded as u64),
+        );
+        return;
+    }
+    let reply = call::look(numbers, words, call);
     let answer = reply.answer;
     replay::store_answer(
         answers,
         i,
         answer::of_answer(answer, reply.discarded as u64),
     );
-    reply.book
 }

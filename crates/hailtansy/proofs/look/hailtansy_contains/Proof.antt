@@ -1,7 +1,8 @@
 -- The call is the book's own.
 use native.Mathlib.Omega.{arith}
 use borrow.Author.Needs.{needs}
-use Rattle.hailtansy.proofs.Laws.{at-contains, unseen-numbers, unseen-words, looked}
+use Rattle.replay_expiring.proofs.Steps.{at-contains}
+use Rattle.hailtansy.proofs.Laws.{unseen-numbers, unseen-words, looked}
 use Rattle.hailtansy.proofs.look.hailtansy_contains.Statement.{statement}
 use Rattle.hailtansy.proofs.look.hailtansy_contains.Tie as tie
 

@@ -1,7 +1,8 @@
 -- The call is the book's own.
 use native.Mathlib.Omega.{arith}
 use borrow.Author.Needs.{needs}
-use Rattle.hailtansy.proofs.Laws.{at-live-len, unseen-numbers, unseen-words, looked}
+use Rattle.replay_expiring.proofs.Steps.{at-live-len}
+use Rattle.hailtansy.proofs.Laws.{unseen-numbers, unseen-words, looked}
 use Rattle.hailtansy.proofs.look.hailtansy_live_len.Statement.{statement}
 use Rattle.hailtansy.proofs.look.hailtansy_live_len.Tie as tie
 

@@ -1,7 +1,8 @@
 -- The call is the book's own.
 use native.Mathlib.Omega.{arith}
 use borrow.Author.Needs.{needs}
-use Rattle.hailtansy.proofs.Laws.{at-peek-lru, unseen-numbers, unseen-words, looked}
+use Rattle.replay_expiring.proofs.Steps.{at-peek-lru}
+use Rattle.hailtansy.proofs.Laws.{unseen-numbers, unseen-words, looked}
 use Rattle.hailtansy.proofs.look.hailtansy_peek_lru.Statement.{statement}
 use Rattle.hailtansy.proofs.look.hailtansy_peek_lru.Tie as tie
 

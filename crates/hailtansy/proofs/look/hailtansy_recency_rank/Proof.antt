@@ -1,7 +1,8 @@
 -- The call is the book's own.
 use native.Mathlib.Omega.{arith}
 use borrow.Author.Needs.{needs}
-use Rattle.hailtansy.proofs.Laws.{at-recency-rank, unseen-numbers, unseen-words, looked}
+use Rattle.replay_expiring.proofs.Steps.{at-recency-rank}
+use Rattle.hailtansy.proofs.Laws.{unseen-numbers, unseen-words, looked}
 use Rattle.hailtansy.proofs.look.hailtansy_recency_rank.Statement.{statement}
 use Rattle.hailtansy.proofs.look.hailtansy_recency_rank.Tie as tie
 

@@ -1,7 +1,7 @@
--- The numbers that are read back are those that were stored.
+-- The run is that of the calls with room for an answer.
 use mathlib.Core.Path.{refl}
 use native.Mathlib.Omega.{arith}
-use Rattle.replay_expiring.proofs.Laws.{book-stored, book-past}
+use Rattle.replay_expiring.proofs.Runs.{run-past}
 use borrow.Author.Needs.{needs}
 use Rattle.replay_expiring.proofs.list.expiring_replay.Statement.{statement}
 use Rattle.replay_expiring.proofs.list.expiring_replay.Tie as tie
@@ -13,21 +13,15 @@ expiring-replay-spec =
     (λ c. record { few = λ _. (refl, refl, refl, refl); ended = λ h. absurd (omega arith); run = λ h. absurd (omega arith); past = λ _ _. refl })
     (λ c κs. search needs)
     (λ c κs. search needs)
-    (λ c κs. search needs)
-    (λ c κs. search needs)
     (λ c. search needs)
     (λ c. search needs)
     (λ c. search needs)
-    (λ c.
-    let end = c .before .before .store-book in
-    let d = c .before .before .before .before .before .before .before .before .before in
-    let ran = d .run in
-    let b = d .before .before .before .before in
-    let g = b .before .before .before in
-    let ns = g .before .before .before .before .before .args .numbers .now in
+    (λ c. let d = c .before .before .before .before .before .before in
+    let ran = d .run .ensures in
+    let g = d .before .before .before .before .before .before in
     record {
       few = λ h. absurd (omega (arith, g .if1 .left));
-      ended = λ _. rw (d .before .room .ensures) at (ran .ensures .0);
-      run = λ h. rw (end .ensures) (rw (book-stored ns (ran .result .book) h) (rw (b .book-in .ensures) at (ran .ensures .1)));
-      past = λ j h. rw (end .ensures) (book-past ns (ran .result .book) j h);
+      ended = λ _. rw (d .before .room .ensures) at (ran .0);
+      run = λ _. ran .1;
+      past = run-past (ran .1);
     }))

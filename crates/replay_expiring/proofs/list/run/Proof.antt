@@ -10,10 +10,10 @@ use Rattle.replay_expiring.proofs.list.run.Statement.{statement}
 use Rattle.replay_expiring.proofs.list.run.Tie as tie
 
 abbrev Inv-loop : tie.InvT-loop
-Inv-loop words₀ calls answers₀ room book₀ i₀ words answers book i = (i ≤ room) × (length words ≡ length words₀) × (length answers ≡ length answers₀) × Run calls words₀ book₀ answers₀ i words book answers
+Inv-loop numbers₀ words₀ calls answers₀ room i₀ numbers words answers i = (i ≤ room) × (length numbers ≡ length numbers₀) × (length words ≡ length words₀) × (length answers ≡ length answers₀) × Run calls numbers₀ words₀ answers₀ i numbers words answers
 
 abbrev μ-loop : tie.MeasureT-loop
-μ-loop words₀ calls answers₀ room book₀ i₀ words answers book i = room - i
+μ-loop numbers₀ words₀ calls answers₀ room i₀ numbers words answers i = room - i
 
 pub run-spec : {M : Type 1} → statement M
 run-spec =
@@ -21,15 +21,17 @@ run-spec =
     (tie.spec
     Inv-loop
     μ-loop
-    (λ c. (search needs, refl, refl, none))
+    (λ c. (search needs, refl, refl, refl, none))
     (λ c κs. search needs)
     (λ c. search needs)
     (λ c. search needs)
-    (λ c. let a = c .before .before in (record { within = search needs; all = λ _. rw (a .asked-at .ensures) at (c .if1 .taken) }, a .before .before .loop .inv .3))
+    (λ c. search needs)
+    (λ c. let a = c .before .before in (record { within = search needs; all = λ _. rw (a .asked-at .ensures) at (c .if1 .taken) }, a .before .before .loop .inv .4))
     (λ c κs. search needs)
-    (λ c. let l = c .before .before .before .before .before .before .before .before .before .before in let s = l .before .before .before .before .before in search (needs, l .loop-test .taken, s .pre .0, s .good .1 .1 .0 .0))
+    (λ c. let l = c .before .before .before .before .before .before .before .before .before .before .before .before .before in let s = l .before .before .before .before .before .before in search (needs, l .loop-test .taken, s .pre .1, s .good .1 .1 .0 .0))
     (λ c. search needs)
-    (λ c. let a = c .before .before .before .before in let e = a .before .before .before .before .before in let l = e .before in (omega (arith, l .loop-test .taken), search needs, search needs, more (l .before .loop .inv .3) (rw (e .asked-at .ensures) at (a .turn .ensures))))
+    (λ c. let a = c .before .before .before .before .before .before in let e = a .before .before .before .before .before .before in let l = e .before in (omega (arith, l .loop-test .taken), search needs, search needs, search needs, more (l .before .loop .inv .4) (rw (e .asked-at .ensures) at (a .turn .ensures))))
     (λ c. search needs)
     (λ c. search needs)
-    (λ c. (record { within = search needs; all = λ h. absurd (omega arith) }, c .before .loop .inv .3)))
+    (λ c. search needs)
+    (λ c. (record { within = search needs; all = λ h. absurd (omega arith) }, c .before .loop .inv .4)))
