@@ -1,6 +1,6 @@
 // Entries in words.
 ghost use mathlib.Core.Path.{_≡_};
-ghost use Prim.Native.Nat.{_+_, _*_, _≤_};
+ghost use Prim.Native.Nat.{_+_, _*_};
 ghost use lib.ListN.{length};
 ghost use Rattle.binary_heap.specs.Order.{le};
 ghost use Rattle.binary_heap.specs.Entries.{entryAt, putAt, swapAt, Holds};

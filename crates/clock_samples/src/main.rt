@@ -17,7 +17,6 @@ mod line;
 mod print;
 
 use libc::STDIN_FILENO;
-use libc::STDOUT_FILENO;
 use line::Line;
 use time::MockClock;
 

@@ -17,10 +17,10 @@ use Rattle.time.specs.Deadline.{isExpiredAt}
 use Rattle.binary_heap.specs.declared.entries.Entry.{Entry}
 use Rattle.linked_hash_map.specs.Model as held
 use Rattle.lazy_heap.specs.declared.heap.LazyMinHeap.{LazyMinHeap}
-use Rattle.lazy_heap.specs.declared.heap.Score.{Score}
-use Rattle.lazy_heap.specs.declared.heap.Score.the-variants as score
-use Rattle.lazy_heap.specs.declared.heap.Best.{Best}
-use Rattle.lazy_heap.specs.declared.heap.Best.the-variants as best
+use Rattle.lazy_heap_model.specs.declared.scores.Score.{Score}
+use Rattle.lazy_heap_model.specs.declared.scores.Score.the-variants as score
+use Rattle.lazy_heap_model.specs.declared.scores.Best.{Best}
+use Rattle.lazy_heap_model.specs.declared.scores.Best.the-variants as best
 use Rattle.lazy_heap.specs.declared.heap.Number.{Number}
 use Rattle.lazy_heap.specs.declared.heap.Number.the-variants as number
 use Rattle.lazy_heap.specs.declared.heap.Flag.{Flag}
@@ -31,8 +31,8 @@ use Rattle.lazy_heap.specs.declared.heap.Bested.{Bested}
 use Rattle.lazy_heap.specs.declared.heap.Stepped.{Stepped}
 use Rattle.lazy_heap.specs.Words.{limitsOf, limitsWith}
 use Rattle.lazy_heap.specs.Answers.{ofScore, ofBest, ofNumber, ofFlag}
-use Rattle.lazy_heap.specs.Model.{Heap, len, heapLen, atMost, heldScore, fromLive, tooMany, rebuilt, renumbered, beforePush, pushed, maybeRebuilt, opened, updated, removed, peeked, popped, poppedFrom, cleared}
-use Rattle.lazy_heap.specs.Model as lazy
+use Rattle.lazy_heap_model.specs.Model.{Heap, len, heapLen, atMost, heldScore, fromLive, tooMany, rebuilt, renumbered, beforePush, pushed, maybeRebuilt, opened, updated, removed, peeked, popped, poppedFrom, cleared}
+use Rattle.lazy_heap_model.specs.Model as lazy
 use Rattle.lazy_heap.specs.Heap.{IsHeap}
 use Rattle.lazy_heap.specs.Calls as heap
 use Rattle.lazy_heap.proofs.Calling.{refused-done, with-refused, with-small}

@@ -10,7 +10,7 @@ use lib.Seq.{ext-getD, getD-drop}
 use Rattle.time.specs.declared.tick.Tick.{Tick}
 use Rattle.linked_hash_map.proofs.Putting as map
 use Rattle.lazy_heap.specs.Words.{wordsFor, Kept}
-use Rattle.lazy_heap.specs.Model.{Heap, heapLen, removed, cleared, updated}
+use Rattle.lazy_heap_model.specs.Model.{Heap, heapLen, removed, cleared, updated}
 use Rattle.lazy_heap.proofs.Laws as lazy
 use Rattle.expiration_index.specs.declared.index.ExpirationIndex.{ExpirationIndex}
 use Rattle.expiration_index.specs.declared.answers.Cleared.{Cleared}

@@ -17,9 +17,8 @@ use Rattle.binary_heap.proofs.Laws.{le-same, le-then}
 use Rattle.binary_heap.proofs.Order.{by-score, by-seq}
 use Rattle.rings.proofs.Counts.{by-lt, by-eq}
 use Rattle.linked_hash_map.specs.declared.map.Record.{Record}
-use Rattle.lazy_heap.specs.Model.{Heap, entryOf, fromLive, peeked, popped, poppedFrom}
+use Rattle.lazy_heap_model.specs.Model.{Heap, entryOf, fromLive, peeked, popped, poppedFrom, bestOfHeap}
 use Rattle.lazy_heap.specs.Valid.{Falling, Valid}
-use Rattle.lazy_heap.specs.Calls.{bestOfHeap}
 use Rattle.lazy_heap.proofs.Helds.{falling-below}
 use Rattle.lazy_heap.proofs.Laws.{best-is, best-none}
 use Rattle.expiration_index.specs.Model.{Pair, Pairs, without, sooner, soonest, next, nextDue, pairIn, ifExpired, nextExpired, less}

@@ -15,8 +15,8 @@ use Rattle.linked_hash_map.specs.declared.map.Taken.{Taken}
 use Rattle.linked_hash_map.specs.declared.map.Taken.the-variants as taken
 use Rattle.linked_hash_map.specs.Model as held
 use Rattle.linked_hash_map.proofs.Laws.{without-none}
-use Rattle.lazy_heap.specs.Model.{Heap, countAtMost, atMost, heldScore, tooMany, rebuilt, numbered, renumbered, beforePush, pushed, maybeRebuilt, updated, removed, peeked, cleared, opened}
-use Rattle.lazy_heap.specs.Model as lazy
+use Rattle.lazy_heap_model.specs.Model.{Heap, countAtMost, atMost, heldScore, tooMany, rebuilt, numbered, renumbered, beforePush, pushed, maybeRebuilt, updated, removed, peeked, cleared, opened}
+use Rattle.lazy_heap_model.specs.Model as lazy
 use Rattle.expiration_index.specs.declared.answers.Deadline.the-variants as deadline
 use Rattle.expiration_index.specs.Model.{Pair, Pairs, lookup, has, without, tell, deadlineOf, set, isFull, expiredCount, Distinct}
 use Rattle.expiration_index.specs.Model as model

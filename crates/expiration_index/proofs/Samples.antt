@@ -5,7 +5,7 @@ use Rattle.time.specs.Duration.{millisOf}
 use Rattle.time.specs.Deadline.{deadlineFrom, isExpiredAt}
 use Rattle.binary_heap.specs.Order.{le, insert, sort}
 use Rattle.linked_hash_map.specs.Model as held
-use Rattle.lazy_heap.specs.Model.{live, staleBefore, fromLive, rebuilt, numbered, renumbered, opened, beforePush, pushed, maybeRebuilt, updated, updateDiscards, removed, peeked, popped, cleared}
+use Rattle.lazy_heap_model.specs.Model.{live, staleBefore, fromLive, rebuilt, numbered, renumbered, opened, beforePush, pushed, maybeRebuilt, updated, updateDiscards, removed, peeked, popped, cleared}
 use Rattle.expiration_index.specs.Model.{lookup, has, without, deadlineOf, set, isFull, next, nextDue, nextExpired, expiredDue, withoutExpired, expiredCount}
 use Rattle.expiration_index.specs.Index.{pairs, deadlines}
 use Rattle.expiration_index.specs.Calls.{poppedExpired}

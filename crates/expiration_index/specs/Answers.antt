@@ -3,10 +3,10 @@ use Prim.Native.Nat.{ℕ}
 use Rattle.time.specs.declared.tick.Tick.{Tick}
 use Rattle.time.specs.declared.refusal.Outcome.{Outcome}
 use Rattle.time.specs.declared.refusal.Outcome.the-variants.{Done, Refused}
-use Rattle.lazy_heap.specs.declared.heap.Score.{Score}
-use Rattle.lazy_heap.specs.declared.heap.Score.the-variants as score
-use Rattle.lazy_heap.specs.declared.heap.Best.{Best}
-use Rattle.lazy_heap.specs.declared.heap.Best.the-variants as best
+use Rattle.lazy_heap_model.specs.declared.scores.Score.{Score}
+use Rattle.lazy_heap_model.specs.declared.scores.Score.the-variants as score
+use Rattle.lazy_heap_model.specs.declared.scores.Best.{Best}
+use Rattle.lazy_heap_model.specs.declared.scores.Best.the-variants as best
 use Rattle.lazy_heap.specs.declared.heap.Number.{Number}
 use Rattle.lazy_heap.specs.declared.heap.Number.the-variants as number
 use Rattle.lazy_heap.specs.declared.heap.Flag.{Flag}

@@ -3,7 +3,7 @@ use mathlib.Core.Path.{_≡_}
 use mathlib.Core.List.{List, [], _∷_, _++_}
 use Prim.Native.Nat.{ℕ}
 use Rattle.linked_hash_map.specs.declared.map.Record.{Record}
-use Rattle.lazy_heap.specs.Model.{Heap}
+use Rattle.lazy_heap_model.specs.Model.{Heap}
 use Rattle.lazy_heap.specs.Heap as lazy
 use Rattle.expiration_index.specs.declared.index.ExpirationIndex.{ExpirationIndex}
 use Rattle.expiration_index.specs.Answers.{tick}

@@ -9,8 +9,7 @@ use Rattle.time.specs.declared.tick.Tick.{Tick}
 use Rattle.time.specs.declared.refusal.Refusal.the-variants.{KeyLimitReached}
 use Rattle.time.specs.Duration.{millisOf}
 use Rattle.time.specs.Deadline.{deadlineFrom}
-use Rattle.lazy_heap.specs.Model.{Heap, heapLen, surplus, opened, updated, updateDiscards, removed, peeked, cleared}
-use Rattle.lazy_heap.specs.Calls.{stale}
+use Rattle.lazy_heap_model.specs.Model.{Heap, heapLen, surplus, opened, updated, updateDiscards, removed, peeked, cleared, stale}
 use Rattle.expiration_index.specs.declared.answers.Deadline.{Deadline}
 use Rattle.expiration_index.specs.declared.answers.Deadline.the-variants as deadline
 use Rattle.expiration_index.specs.declared.answers.Due.{Due}

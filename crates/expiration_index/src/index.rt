@@ -10,13 +10,11 @@ use crate::answers::Due;
 use crate::answers::Looked;
 use crate::answers::Opened;
 use crate::answers::Told;
-use lazy_heap::Best;
 use lazy_heap::Flag;
 use lazy_heap::LazyMinHeap;
 use lazy_heap::Number;
-use lazy_heap::Score;
-use time::Outcome;
-use time::Refusal;
+use lazy_heap_model::Best;
+use lazy_heap_model::Score;
 use time::Tick;
 
 // The index's numbers; the deadlines are in the words. Those of a refused opening are all 0.

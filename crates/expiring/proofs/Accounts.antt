@@ -14,8 +14,8 @@ use Rattle.time.specs.declared.refusal.Refusal.the-variants.{InvalidNanos, KeyL
 use Rattle.time.specs.declared.refusal.Outcome.{Outcome}
 use Rattle.time.specs.declared.refusal.Outcome.the-variants as outcome
 use Rattle.rings.proofs.Counts.{by-lt}
-use Rattle.lazy_heap.specs.Model.{Heap, heapLen, beforePush, pushed, updated, updateDiscards, removed, cleared}
-use Rattle.lazy_heap.specs.Model as lazy
+use Rattle.lazy_heap_model.specs.Model.{Heap, heapLen, beforePush, pushed, updated, updateDiscards, removed, cleared}
+use Rattle.lazy_heap_model.specs.Model as lazy
 use Rattle.lazy_heap.proofs.Laws.{Fair, fair-heap, updated-accounts, updated-bound, maybe-rebuilt-accounts, cleared-accounts, peeked-accounts}
 use Rattle.lazy_heap.proofs.Valid.{valid-pushed}
 use Rattle.lazy_heap.proofs.Updating.{room-without, push-length}
@@ -26,8 +26,8 @@ use Rattle.expiration_index.proofs.Pairs.{distinct-pairs, deadlines-length, dea
 use Rattle.expiration_index.proofs.Expired.{without-missing}
 use Rattle.expiring.specs.declared.answers.Reply.{Reply}
 use Rattle.expiring.specs.declared.expiring.Expiring.{Expiring}
-use Rattle.expiring.specs.Model.{Book, Call, Change, keep, set, drop, dropExpired, dropAll, look, changeOf, pairsAfter, replacedBy, removedBy, setsBeyond, badNanos, refusalOf, accepted, bookAfter}
-use Rattle.expiring.specs.Discards.{discards, heapAfter, discardedBy, heapBy}
+use Rattle.expiring_model.specs.Model.{Book, Call, Change, keep, set, drop, dropExpired, dropAll, look, changeOf, pairsAfter, replacedBy, removedBy, setsBeyond, badNanos, refusalOf, accepted, bookAfter}
+use Rattle.expiring_model.specs.Discards.{discards, heapAfter, discardedBy, heapBy}
 use Rattle.expiring.specs.Book.{IsBook, heapOf, modelOf}
 use Rattle.expiring.specs.Calls.{Following}
 use Rattle.expiring.proofs.Purging.{purged-accounts, unexpired-length}

@@ -10,16 +10,16 @@ use Rattle.time.specs.declared.tick.Tick.{Tick}
 use Rattle.time.specs.declared.refusal.Refusal.{Refusal}
 use Rattle.time.specs.declared.refusal.Refusal.the-variants.{InvalidNanos, KeyLimitReached}
 use Rattle.time.specs.declared.refusal.Outcome.the-variants.{Done, Refused}
-use Rattle.lazy_heap.specs.Model.{Heap}
+use Rattle.lazy_heap_model.specs.Model.{Heap}
 use Rattle.fast_lru.specs.Model.{Items}
 use Rattle.expiration_index.specs.Model.{Pairs}
-use Rattle.expiring.specs.declared.answers.Answer.{Answer}
-use Rattle.expiring.specs.declared.answers.Answer.the-variants as answers
+use Rattle.expiring_model.specs.declared.answers.Answer.{Answer}
+use Rattle.expiring_model.specs.declared.answers.Answer.the-variants as answers
 use Rattle.expiring.specs.declared.answers.Reply.{Reply}
 use Rattle.expiring.specs.declared.expiring.Expiring.{Expiring}
-use Rattle.expiring.specs.declared.expiring.DefaultTtl.{DefaultTtl}
-use Rattle.expiring.specs.Model.{Book, Call, Change, keep, set, drop, dropExpired, dropAll, look, changeOf, pairsAfter, storedAfter, expiredBy, answered, badNanos, setsBeyond, refusalOf, accepted, answerOf, bookAfter}
-use Rattle.expiring.specs.Discards.{discards, heapAfter, discardedBy, heapBy}
+use Rattle.expiring_model.specs.declared.lifetimes.DefaultTtl.{DefaultTtl}
+use Rattle.expiring_model.specs.Model.{Book, Call, Change, keep, set, drop, dropExpired, dropAll, look, changeOf, pairsAfter, storedAfter, expiredBy, answered, badNanos, setsBeyond, refusalOf, accepted, answerOf, bookAfter}
+use Rattle.expiring_model.specs.Discards.{discards, heapAfter, discardedBy, heapBy}
 use Rattle.expiring.specs.Book.{limitsOf, capacityOf, limitOf, IsBook, heapOf, modelOf}
 use Rattle.expiring.specs.Calls.{causeOf, Following}
 use Rattle.expiring.specs.Steps.{withExpired, replying, storedOf, deadlinesOf, saturatingSum, Moved, beyond, Acting}

@@ -10,7 +10,7 @@ use lib.ListN.{length, length-drop}
 use Rattle.time.specs.declared.tick.Tick.{Tick}
 use Rattle.time.specs.declared.refusal.Refusal.{Refusal}
 use Rattle.time.specs.declared.refusal.Outcome.the-variants.{Done, Refused}
-use Rattle.lazy_heap.specs.Model.{heapLen}
+use Rattle.lazy_heap_model.specs.Model.{heapLen}
 use Rattle.lazy_heap.specs.Words as heap
 use Rattle.fast_lru.specs.declared.answers.Told.{Told}
 use Rattle.fast_lru.specs.declared.answers.Told.the-variants as told
@@ -28,7 +28,7 @@ use Rattle.expiration_index.specs.Model as pairs
 use Rattle.expiration_index.specs.Index as index
 use Rattle.expiration_index.specs.Calls as calls
 use Rattle.expiring.specs.declared.expiring.Expiring.{Expiring}
-use Rattle.expiring.specs.Model.{hasCome}
+use Rattle.expiring_model.specs.Model.{hasCome}
 use Rattle.expiring.specs.Book.{Room, start, limitsOf, capacityOf, limitOf, IsBook, modelOf}
 use Rattle.expiring.specs.Calls.{Checking, Counting, DeadlinesHeld, HeapLength}
 use Rattle.expiring.specs.Steps.{comeBy, storedOf, deadlinesOf, DeadlineOf, Expired, Stored, StoredCount, ExpiredCount}

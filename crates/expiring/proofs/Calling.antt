@@ -11,10 +11,10 @@ use Rattle.fast_lru.specs.Model as list
 use Rattle.fast_lru.specs.Calls as lru
 use Rattle.expiration_index.specs.declared.index.ExpirationIndex.{ExpirationIndex}
 use Rattle.expiration_index.specs.declared.answers.Deadline.{Deadline}
-use Rattle.expiring.specs.declared.answers.Answer.the-variants as answers
+use Rattle.expiring_model.specs.declared.answers.Answer.the-variants as answers
 use Rattle.expiring.specs.declared.expiring.Expiring.{Expiring}
 use Rattle.expiring.specs.declared.expiring.Dated.{Dated}
-use Rattle.expiring.specs.Model.{Change, keep, set, valueIn}
+use Rattle.expiring_model.specs.Model.{Change, keep, set, valueIn}
 use Rattle.expiring.specs.Book.{IsBook}
 use Rattle.expiring.specs.Steps.{ofFound, comeBy, withList, withIndex, storedOf, DeadlineOf, Moved, same, Dating, Valuing, beyond, expiredIn, valueOf, unless, Acting, concluding, Inserting}
 use Rattle.expiring.proofs.Asking.{expired-by}

@@ -39,14 +39,14 @@ use Rattle.expiration_index.specs.Model.{Pair, next, nextDue, pairIn, deadlineI
 use Rattle.expiration_index.specs.Model as pairs
 use Rattle.expiration_index.specs.Index as index
 use Rattle.expiration_index.specs.Calls as calls
-use Rattle.expiring.specs.declared.answers.Answer.{Answer}
-use Rattle.expiring.specs.declared.answers.Answer.the-variants as answers
+use Rattle.expiring_model.specs.declared.answers.Answer.{Answer}
+use Rattle.expiring_model.specs.declared.answers.Answer.the-variants as answers
 use Rattle.expiring.specs.declared.answers.Reply.{Reply}
 use Rattle.expiring.specs.declared.expiring.Expiring.{Expiring}
-use Rattle.expiring.specs.declared.expiring.DefaultTtl.the-variants as default
+use Rattle.expiring_model.specs.declared.lifetimes.DefaultTtl.the-variants as default
 use Rattle.expiring.specs.declared.expiring.Valued.{Valued}
 use Rattle.expiring.specs.declared.expiring.Dated.{Dated}
-use Rattle.expiring.specs.Model.{Call, contains, peek, get, insert, remove, clear, insertWithTtl, ttlStatus, setTtl, liveLen, expirations, nextDeadline, touch, recencyRank, popLru, peekLru, keep, set, drop, dropAll, isExpired, changeOf, storedAfter, expiredBy, answered, badNanos, valueUnlessExpired, itemIn, dueIn, rankIn, tell, statusIn, livesAt}
+use Rattle.expiring_model.specs.Model.{Call, contains, peek, get, insert, remove, clear, insertWithTtl, ttlStatus, setTtl, liveLen, expirations, nextDeadline, touch, recencyRank, popLru, peekLru, keep, set, drop, dropAll, isExpired, changeOf, storedAfter, expiredBy, answered, badNanos, valueUnlessExpired, itemIn, dueIn, rankIn, tell, statusIn, livesAt}
 use Rattle.expiring.specs.Book.{limitsOf, Room, capacityOf, limitOf, IsBook, modelOf}
 use Rattle.expiring.specs.Calls.{Following}
 use Rattle.expiring.specs.Steps.{ofFound, ofTold, ofOldest, ofDue, statusOf, withList, withIndex, withExpired, replying, storedOf, deadlinesOf, DeadlineOf, Expired, Stored, StoredCount, ExpiredCount, Moved, same, Dating, Valuing, Inserting, Removing}

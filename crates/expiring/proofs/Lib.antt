@@ -13,4 +13,3 @@ pub mod Purging
 pub mod PurgeLoop
 pub mod Accounts
 pub mod Runs
-pub mod Samples

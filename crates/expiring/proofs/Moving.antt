@@ -7,8 +7,8 @@ use lib.ListN.{length}
 use lib.ListN as words
 use borrow.Rule.Slice.PartMut.{midOf, putMid}
 use Rattle.time.specs.declared.refusal.Outcome.{Outcome}
-use Rattle.lazy_heap.specs.Model.{Heap, removed, peeked}
-use Rattle.lazy_heap.specs.Calls.{nothing, stale}
+use Rattle.lazy_heap_model.specs.Model.{Heap, removed, peeked, stale}
+use Rattle.lazy_heap.specs.Calls.{nothing}
 use Rattle.lazy_heap.specs.Words as heap
 use Rattle.fast_lru.specs.declared.lru.FastLru.{FastLru}
 use Rattle.fast_lru.specs.Model.{Items}
@@ -21,8 +21,8 @@ use Rattle.expiration_index.specs.Model as pairs
 use Rattle.expiration_index.specs.Index as index
 use Rattle.expiration_index.specs.Calls as calls
 use Rattle.expiring.specs.declared.expiring.Expiring.{Expiring}
-use Rattle.expiring.specs.Model.{Change, keep, drop, dropAll, look, pairsAfter}
-use Rattle.expiring.specs.Discards.{discards, heapAfter}
+use Rattle.expiring_model.specs.Model.{Change, keep, drop, dropAll, look, pairsAfter}
+use Rattle.expiring_model.specs.Discards.{discards, heapAfter}
 use Rattle.expiring.specs.Book.{start, Room, capacityOf, limitOf, rest, IsBook, heapOf, Kept}
 use Rattle.expiring.specs.Steps.{withList, withIndex, deadlinesOf, Moved, same}
 use Rattle.expiring.proofs.Frames.{rest-is, rest-back, rest-length, rest-before, rest-kept, kept-then, kept-list}

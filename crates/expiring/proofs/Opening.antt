@@ -12,8 +12,8 @@ use Rattle.time.specs.declared.duration.Ticked.the-variants as ticked
 use Rattle.time.specs.Duration.{ticksOf}
 use Rattle.time.specs.declared.refusal.Refusal.{Refusal}
 use Rattle.time.specs.declared.refusal.Outcome.the-variants.{Done, Refused}
-use Rattle.lazy_heap.specs.Model.{Heap}
-use Rattle.lazy_heap.specs.Model as heap
+use Rattle.lazy_heap_model.specs.Model.{Heap}
+use Rattle.lazy_heap_model.specs.Model as heap
 use Rattle.lazy_heap.proofs.Laws as lazy
 use Rattle.lazy_heap.proofs.Parts.{part-length}
 use Rattle.fast_lru.specs.declared.answers.Opened as listed
@@ -25,15 +25,16 @@ use Rattle.expiration_index.specs.declared.answers.Opened as indexed
 use Rattle.expiration_index.specs.Index as index
 use Rattle.expiration_index.specs.Calls as calls
 use Rattle.expiring.specs.declared.expiring.Expiring.{Expiring}
-use Rattle.expiring.specs.declared.expiring.DefaultTtl.{DefaultTtl}
-use Rattle.expiring.specs.declared.expiring.DefaultTtl.the-variants as default
-use Rattle.expiring.specs.declared.expiring.DefaultDuration.{DefaultDuration}
+use Rattle.expiring_model.specs.declared.lifetimes.DefaultTtl.{DefaultTtl}
+use Rattle.expiring_model.specs.declared.lifetimes.DefaultTtl.the-variants as default
+use Rattle.expiring_model.specs.declared.lifetimes.DefaultDuration.{DefaultDuration}
 use Rattle.expiring.specs.declared.expiring.Defaulted.the-variants as defaulted
-use Rattle.expiring.specs.declared.expiring.DefaultDuration.the-variants as asked
+use Rattle.expiring_model.specs.declared.lifetimes.DefaultDuration.the-variants as asked
 use Rattle.expiring.specs.declared.expiring.Opened as expiring
-use Rattle.expiring.specs.Model.{fresh}
+use Rattle.expiring_model.specs.Model.{fresh}
 use Rattle.expiring.specs.Book.{start, limitsOf, Room, limitOf, rest, heapOf, modelOf}
-use Rattle.expiring.specs.Calls.{noBook, byTicks as outcomeOf, byDuration, openingOf, ofTicks, defaultOf, Opening}
+use Rattle.expiring.specs.Calls.{noBook, byTicks as outcomeOf, byDuration, openingOf, Opening}
+use Rattle.expiring_model.specs.Model.{ofTicks, defaultOf}
 use Rattle.expiring.specs.Steps.{byTicks, defaultedBy, Opened}
 use Rattle.expiring.proofs.Frames.{rest-back, rest-length, rest-before, rest-kept, kept-then, kept-list, kept-same}
 use Rattle.expiring.proofs.Acting.{same-book}

@@ -8,7 +8,7 @@ use native.Mathlib.Omega.{arith}
 use lib.ListN.{length}
 use Rattle.time.specs.declared.tick.Tick.{Tick}
 use Rattle.time.specs.declared.refusal.Refusal.{Refusal}
-use Rattle.lazy_heap.specs.Calls.{stale}
+use Rattle.lazy_heap_model.specs.Model.{stale}
 use Rattle.fast_lru.specs.Model as list
 use Rattle.expiration_index.specs.declared.answers.Due.the-variants as due
 use Rattle.expiration_index.specs.declared.answers.Looked.{Looked}
@@ -18,7 +18,7 @@ use Rattle.expiration_index.specs.Index as index
 use Rattle.expiration_index.specs.Calls as calls
 use Rattle.expiring.specs.declared.expiring.Expiring.{Expiring}
 use Rattle.expiring.specs.declared.expiring.Valued.{Valued}
-use Rattle.expiring.specs.Model.{keep}
+use Rattle.expiring_model.specs.Model.{keep}
 use Rattle.expiring.specs.Book.{Room, capacityOf, limitOf, IsBook, heapOf}
 use Rattle.expiring.specs.Steps.{withIndex, storedOf, deadlinesOf, Valuing, PoppingExpired}
 use Rattle.expiring.proofs.Frames.{kept-then}

@@ -8,18 +8,18 @@ use native.Mathlib.Omega.{arith}
 use lib.ListN.{length}
 use Rattle.time.specs.declared.tick.Tick.{Tick}
 use Rattle.time.specs.declared.refusal.Outcome.the-variants.{Done}
-use Rattle.lazy_heap.specs.Model.{popped}
+use Rattle.lazy_heap_model.specs.Model.{popped}
 use Rattle.lazy_heap.proofs.Laws.{fair-heap}
 use Rattle.fast_lru.specs.Model as list
 use Rattle.expiration_index.specs.Model.{Pair, nextExpired, expiredCount, less, Distinct}
 use Rattle.expiration_index.specs.Model as pairs
 use Rattle.expiration_index.specs.Calls.{poppedExpired, takenIf}
 use Rattle.expiration_index.proofs.Laws.{model-distinct, model-bounded}
-use Rattle.expiring.specs.declared.answers.Answer.the-variants as answers
+use Rattle.expiring_model.specs.declared.answers.Answer.the-variants as answers
 use Rattle.expiring.specs.declared.expiring.Expiring.{Expiring}
 use Rattle.expiring.specs.declared.expiring.Popped.{Popped}
-use Rattle.expiring.specs.Model.{purgeExpired, dropExpired, changeOf, pairsAfter, withoutExpired, storedAfter, expiredBy, answered, badNanos}
-use Rattle.expiring.specs.Discards.{discards, heapAfter}
+use Rattle.expiring_model.specs.Model.{purgeExpired, dropExpired, changeOf, pairsAfter, withoutExpired, storedAfter, expiredBy, answered, badNanos}
+use Rattle.expiring_model.specs.Discards.{discards, heapAfter}
 use Rattle.expiring.specs.Book.{limitsOf, Room, capacityOf, limitOf, IsBook, heapOf, modelOf, Kept}
 use Rattle.expiring.specs.Calls.{Following}
 use Rattle.expiring.specs.Steps.{saturatingSum, purging, storedOf, deadlinesOf, Moved, isSome, lessValue, PoppingExpired}

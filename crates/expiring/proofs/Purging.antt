@@ -19,9 +19,8 @@ use Rattle.linked_hash_map.specs.declared.map.Record.{Record}
 use Rattle.linked_hash_map.specs.declared.map.Taken.{Taken}
 use Rattle.linked_hash_map.specs.declared.map.Taken.the-variants as taken
 use Rattle.linked_hash_map.specs.Model as held
-use Rattle.lazy_heap.specs.Model.{Heap, entryOf, matches, live, staleBefore, fromLive, countAtMost, heapLen, peeked, popped, poppedFrom}
+use Rattle.lazy_heap_model.specs.Model.{Heap, entryOf, matches, live, staleBefore, fromLive, countAtMost, heapLen, peeked, popped, poppedFrom, stale}
 use Rattle.lazy_heap.specs.Valid.{Valid}
-use Rattle.lazy_heap.specs.Calls.{stale}
 use Rattle.lazy_heap.proofs.Helds.{lookup-mem, live-held}
 use Rattle.lazy_heap.proofs.Stepping.{same-heap}
 use Rattle.lazy_heap.proofs.Valid.{first-live}
@@ -34,8 +33,8 @@ use Rattle.expiration_index.specs.Index.{pairOf, deadlines}
 use Rattle.expiration_index.proofs.Pairs.{expired-deadlines}
 use Rattle.expiration_index.proofs.Nexts.{Best, empty, first, best-next}
 use Rattle.expiration_index.proofs.Expired.{none-expired, unexpired-all, taken-count, taken-unexpired}
-use Rattle.expiring.specs.Model.{dropExpired, pairsAfter, withoutExpired}
-use Rattle.expiring.specs.Discards.{expiredBefore, fromUnexpired, heldUnexpired, purged, discards, heapAfter}
+use Rattle.expiring_model.specs.Model.{dropExpired, pairsAfter, withoutExpired}
+use Rattle.expiring_model.specs.Discards.{expiredBefore, fromUnexpired, heldUnexpired, purged, discards, heapAfter}
 
 -- ---- the held key of a live entry
 lookup-other : (k j : ℕ) → (j ≡ k → ⊥) → (l : held.Model) → held.lookup j (held.without k l) ≡ held.lookup j l

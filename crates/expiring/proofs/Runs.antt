@@ -1,20 +1,22 @@
 -- A list of calls comes to what the model comes to: each call does, on what the one before left.
 use mathlib.Core.Path.{_≡_, refl, ap, _∙_, subst}
-use mathlib.Core.List.{List, [], _∷_, _++_}
+use mathlib.Core.List.{List}
 use Prim.Native.Nat.{ℕ, _+_}
 use native.Mathlib.Omega.{arith}
 use Rattle.time.specs.declared.tick.Tick.{Tick}
 use Rattle.time.specs.declared.refusal.Outcome.the-variants.{Done}
-use Rattle.lazy_heap.specs.Model.{heapLen, opened}
-use Rattle.expiring.specs.declared.answers.Answer.{Answer}
+use Rattle.lazy_heap_model.specs.Model.{heapLen, opened}
+use Rattle.expiring_model.specs.declared.answers.Answer.{Answer}
 use Rattle.expiring.specs.declared.answers.Reply.{Reply}
 use Rattle.expiring.specs.declared.expiring.Expiring.{Expiring}
 use Rattle.expiring.specs.declared.expiring.Opened.{Opened}
-use Rattle.expiring.specs.declared.expiring.DefaultDuration.{DefaultDuration}
-use Rattle.expiring.specs.Model.{Book, Call, fresh, answerOf, bookAfter}
+use Rattle.expiring_model.specs.declared.lifetimes.DefaultDuration.{DefaultDuration}
+use Rattle.expiring_model.specs.Model.{Book, Call, fresh, answerOf, bookAfter}
 use Rattle.expiring.specs.Book.{IsBook, heapOf, modelOf}
-use Rattle.expiring.specs.Calls.{Following, Opening, defaultOf}
-use Rattle.expiring.specs.Runs.{Calls, answersOf, bookAtEnd, Run, none, more, AsTheModel}
+use Rattle.expiring.specs.Calls.{Following, Opening}
+use Rattle.expiring_model.specs.Model.{defaultOf}
+use Rattle.expiring.specs.Runs.{Run, none, more, AsTheModel}
+use Rattle.expiring_model.specs.Lists.{Calls, answersOf, bookAtEnd}
 use Rattle.expiring.proofs.Accounts.{counted, call-accounts}
 
 -- ---- from any book, with whatever was replaced and removed before
@@ -48,13 +50,6 @@ follow p is e (more {t = t} {c = c} {r = r} {cs = cs} {n = n} o run) =
       book = f .book;
       sum = omega (arith, f .sum, sum-next is e o);
     }
-
--- ---- a call more
-pub run-then : {ws ws₁ ws₂ : List ℕ} {b b₁ : Expiring} {t : Tick} {c : Call} {r : Reply} {cs : Calls} {told : List Answer} {n : ℕ} → Run ws b cs told n ws₁ b₁ → Following ws₁ b₁ t c ws₂ r → Run ws b (cs ++ ((t, c) ∷ [])) (told ++ (r .answer ∷ [])) (n + r .discarded) ws₂ (r .book)
-run-then {ws = ws} {ws₂ = ws₂} {b = b} {t = t} {c = c} {r = r} none o =
-    subst (λ (k : ℕ). Run ws b ((t, c) ∷ []) (r .answer ∷ []) k ws₂ (r .book)) (let q : r .discarded + 0 ≡ 0 + r .discarded = omega arith in q) (more o none)
-run-then {ws = ws} {ws₂ = ws₂} {b = b} {t = t} {c = c} {r = r} (more {t = u} {c = d} {r = a} {cs = cs} {told = told} {n = n} p run) o =
-    subst (λ (k : ℕ). Run ws b ((u, d) ∷ (cs ++ ((t, c) ∷ []))) (a .answer ∷ (told ++ (r .answer ∷ []))) k ws₂ (r .book)) (let q : a .discarded + (n + r .discarded) ≡ a .discarded + n + r .discarded = omega arith in q) (more p (run-then run o))
 
 -- ---- demand 3
 pub as-the-model : {ws ws₁ ws′ : List ℕ} {c d s : ℕ} {l : DefaultDuration} {r : Opened} {b : Expiring} {cs : Calls} {told : List Answer} {n : ℕ} → Opening ws c d s l ws₁ r → r .outcome ≡ Done → Run ws₁ (r .book) cs told n ws′ b → AsTheModel (fresh c d (defaultOf l)) cs told n ws′ b

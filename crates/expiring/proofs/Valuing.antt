@@ -10,7 +10,7 @@ use Rattle.time.specs.declared.tick.Tick.{Tick}
 use Rattle.time.specs.declared.refusal.Refusal.{Refusal}
 use Rattle.time.specs.declared.refusal.Refusal.the-variants.{KeyLimitReached}
 use Rattle.time.specs.declared.refusal.Outcome.the-variants as outcome
-use Rattle.lazy_heap.specs.Model.{updated, updateDiscards}
+use Rattle.lazy_heap_model.specs.Model.{updated, updateDiscards}
 use Rattle.fast_lru.specs.declared.answers.Found.{Found}
 use Rattle.fast_lru.specs.declared.answers.Found.the-variants as found
 use Rattle.fast_lru.specs.declared.answers.Got.{Got}
@@ -25,11 +25,11 @@ use Rattle.expiration_index.specs.Model as pairs
 use Rattle.expiration_index.specs.Answers.{ofDeadline}
 use Rattle.expiration_index.specs.Index as index
 use Rattle.expiration_index.specs.Calls as calls
-use Rattle.expiring.specs.declared.answers.Answer.{Answer}
-use Rattle.expiring.specs.declared.answers.Answer.the-variants as answers
+use Rattle.expiring_model.specs.declared.answers.Answer.{Answer}
+use Rattle.expiring_model.specs.declared.answers.Answer.the-variants as answers
 use Rattle.expiring.specs.declared.expiring.Expiring.{Expiring}
-use Rattle.expiring.specs.Model.{keep, set, valueIn, pairsAfter}
-use Rattle.expiring.specs.Discards.{discards, heapAfter}
+use Rattle.expiring_model.specs.Model.{keep, set, valueIn, pairsAfter}
+use Rattle.expiring_model.specs.Discards.{discards, heapAfter}
 use Rattle.expiring.specs.Book.{start, Room, capacityOf, limitOf, IsBook, heapOf}
 use Rattle.expiring.specs.Steps.{ofFound, isAccepted, withList, withIndex, storedOf, deadlinesOf, DeadlineOf, Dating, Valuing}
 use Rattle.expiring.proofs.Moving.{moved-list, lent, back, lent-is, lent-index, moved-index}

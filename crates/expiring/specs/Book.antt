@@ -8,11 +8,11 @@ use lib.ListN.{length, getD, drop}
 use Rattle.time.specs.declared.refusal.Outcome.{Outcome}
 use Rattle.time.specs.declared.refusal.Outcome.the-variants.{Done, Refused}
 use Rattle.time.specs.declared.refusal.Refusal.the-variants.{LimitOutOfRange, TooFewWords}
-use Rattle.lazy_heap.specs.Model.{Heap}
+use Rattle.lazy_heap_model.specs.Model.{Heap}
 use Rattle.fast_lru.specs.Lru as list
 use Rattle.expiration_index.specs.Index as index
 use Rattle.expiring.specs.declared.expiring.Expiring.{Expiring}
-use Rattle.expiring.specs.Model.{Book}
+use Rattle.expiring_model.specs.Model.{Book}
 
 -- the words of a book for c values and d deadlines: the list's 64 + 8 c, and then the index's 64 + 32 d
 abbrev pub wordsFor : ℕ → ℕ → ℕ

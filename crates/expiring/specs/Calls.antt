@@ -15,23 +15,22 @@ use Rattle.time.specs.declared.refusal.Outcome.the-variants.{Done, Refused}
 use Rattle.time.specs.declared.duration.Duration.{Duration}
 use Rattle.time.specs.declared.duration.TtlTicks.{TtlTicks}
 use Rattle.time.specs.Duration.{isDuration, millisOf, ticksOf}
-use Rattle.lazy_heap.specs.Model as heap
+use Rattle.lazy_heap_model.specs.Model as heap
 use Rattle.fast_lru.specs.Refusals.{blank}
 use Rattle.expiration_index.specs.declared.answers.Count.{Count}
 use Rattle.expiration_index.specs.declared.answers.Count.the-variants as count
 use Rattle.expiration_index.specs.Answers.{ofCount}
 use Rattle.expiration_index.specs.Index.{factor}
 use Rattle.expiration_index.specs.Calls.{noIndex}
-use Rattle.expiring.specs.declared.answers.Answer.the-variants as answers
+use Rattle.expiring_model.specs.declared.answers.Answer.the-variants as answers
 use Rattle.expiring.specs.declared.answers.Reply.{Reply}
 use Rattle.expiring.specs.declared.expiring.Expiring.{Expiring}
 use Rattle.expiring.specs.declared.expiring.Opened.{Opened}
-use Rattle.expiring.specs.declared.expiring.DefaultTtl.{DefaultTtl}
-use Rattle.expiring.specs.declared.expiring.DefaultTtl.the-variants as default
-use Rattle.expiring.specs.declared.expiring.DefaultDuration.{DefaultDuration}
-use Rattle.expiring.specs.declared.expiring.DefaultDuration.the-variants as asked
-use Rattle.expiring.specs.Model.{Call, setTtl, fresh, badNanos, answerOf, bookAfter}
-use Rattle.expiring.specs.Discards.{discardedBy, heapBy}
+use Rattle.expiring_model.specs.declared.lifetimes.DefaultTtl.the-variants as default
+use Rattle.expiring_model.specs.declared.lifetimes.DefaultDuration.{DefaultDuration}
+use Rattle.expiring_model.specs.declared.lifetimes.DefaultDuration.the-variants as asked
+use Rattle.expiring_model.specs.Model.{Call, setTtl, defaultOf, fresh, badNanos, answerOf, bookAfter}
+use Rattle.expiring_model.specs.Discards.{discardedBy, heapBy}
 use Rattle.expiring.specs.Book.{limitsOf, capacityOf, limitOf, IsBook, heapOf, modelOf, Kept}
 
 -- the numbers of a refused opening
@@ -76,15 +75,6 @@ andThen Done o = o
 -- refusals 1, 2 and 3
 unfoldable pub openingOf : ℕ → ℕ → ℕ → DefaultDuration → Outcome
 openingOf c d size l = andThen (limitsOf c d size) (byDuration l)
-
--- the default lifetime in ticks
-abbrev pub ofTicks : Ticked → DefaultTtl
-ofTicks (ticked.Ticks l) = default.Of l
-ofTicks (ticked.Refused why) = default.Nothing
-
-abbrev pub defaultOf : DefaultDuration → DefaultTtl
-defaultOf (asked.Of d) = ofTicks (ticksOf d)
-defaultOf asked.Nothing = default.Nothing
 
 -- the fresh book, whatever the words held before
 pub record Opening (ws : List ℕ) (c d s : ℕ) (l : DefaultDuration) (ws′ : List ℕ) (r : Opened) : Type 0 where

@@ -5,26 +5,14 @@ use mathlib.Core.List.{List, [], _∷_}
 use Prim.Native.Nat.{ℕ, _+_}
 use lib.ListN.{length}
 use Rattle.time.specs.declared.tick.Tick.{Tick}
-use Rattle.lazy_heap.specs.Model.{heapLen}
-use Rattle.expiring.specs.declared.answers.Answer.{Answer}
+use Rattle.lazy_heap_model.specs.Model.{heapLen}
+use Rattle.expiring_model.specs.declared.answers.Answer.{Answer}
 use Rattle.expiring.specs.declared.answers.Reply.{Reply}
 use Rattle.expiring.specs.declared.expiring.Expiring.{Expiring}
-use Rattle.expiring.specs.Model.{Book, Call, answerOf, bookAfter}
+use Rattle.expiring_model.specs.Model.{Book, Call}
+use Rattle.expiring_model.specs.Lists.{Calls, answersOf, bookAtEnd}
 use Rattle.expiring.specs.Book.{IsBook, heapOf, modelOf}
 use Rattle.expiring.specs.Calls.{Following}
-
--- calls, each with what its clock reads
-abbrev pub Calls : Type 0
-Calls = List (Tick × Call)
-
--- the model run over them: its answers, and how it stands then
-unfoldable pub answersOf : Calls → Book → List Answer
-answersOf [] p = []
-answersOf ((t, c) ∷ cs) p = answerOf t c p ∷ answersOf cs (bookAfter t c p)
-
-unfoldable pub bookAtEnd : Calls → Book → Book
-bookAtEnd [] p = p
-bookAtEnd ((t, c) ∷ cs) p = bookAtEnd cs (bookAfter t c p)
 
 -- "Each call of a list is lent the book's words as the call before left them, and handed the numbers that it handed back."
 -- From words and numbers by calls to the answers, the total of the discarded counts, and words and numbers.

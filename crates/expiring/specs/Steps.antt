@@ -13,8 +13,7 @@ use Rattle.time.specs.declared.refusal.Refusal.the-variants.{KeyLimitReached}
 use Rattle.time.specs.declared.refusal.Outcome.the-variants.{Done}
 use Rattle.time.specs.Duration.{ticksOf}
 use Rattle.time.specs.Deadline.{isExpiredAt, remainingAt}
-use Rattle.lazy_heap.specs.Model.{opened}
-use Rattle.lazy_heap.specs.Calls.{stale}
+use Rattle.lazy_heap_model.specs.Model.{opened, stale}
 use Rattle.fast_lru.specs.declared.lru.FastLru.{FastLru}
 use Rattle.fast_lru.specs.declared.answers.Found.{Found}
 use Rattle.fast_lru.specs.declared.answers.Found.the-variants as found
@@ -34,8 +33,8 @@ use Rattle.expiration_index.specs.Model.{Pair, Pairs, isFull, expiredCount, dea
 use Rattle.expiration_index.specs.Model as pairs
 use Rattle.expiration_index.specs.Index as index
 use Rattle.expiration_index.specs.Calls.{poppedExpired}
-use Rattle.expiring.specs.declared.answers.Answer.{Answer}
-use Rattle.expiring.specs.declared.answers.Answer.the-variants as answers
+use Rattle.expiring_model.specs.declared.answers.Answer.{Answer}
+use Rattle.expiring_model.specs.declared.answers.Answer.the-variants as answers
 use Rattle.expiring.specs.declared.answers.Reply.{Reply}
 use Rattle.expiring.specs.declared.expiring.Expiring.{Expiring}
 use Rattle.expiring.specs.declared.expiring.Opened as expiring
@@ -44,12 +43,12 @@ use Rattle.expiring.specs.declared.expiring.Popped.{Popped}
 use Rattle.expiring.specs.declared.expiring.Valued.{Valued}
 use Rattle.expiring.specs.declared.expiring.Defaulted.{Defaulted}
 use Rattle.expiring.specs.declared.expiring.Defaulted.the-variants as defaulted
-use Rattle.expiring.specs.declared.expiring.DefaultTtl.{DefaultTtl}
-use Rattle.expiring.specs.declared.expiring.DefaultTtl.the-variants as default
-use Rattle.expiring.specs.declared.expiring.DefaultDuration.{DefaultDuration}
-use Rattle.expiring.specs.declared.expiring.DefaultDuration.the-variants as asked
-use Rattle.expiring.specs.Model.{Change, keep, set, drop, dropExpired, dropAll, look, fresh, pairsAfter, hasCome, livesAt, valueIn}
-use Rattle.expiring.specs.Discards.{discards, heapAfter}
+use Rattle.expiring_model.specs.declared.lifetimes.DefaultTtl.{DefaultTtl}
+use Rattle.expiring_model.specs.declared.lifetimes.DefaultTtl.the-variants as default
+use Rattle.expiring_model.specs.declared.lifetimes.DefaultDuration.{DefaultDuration}
+use Rattle.expiring_model.specs.declared.lifetimes.DefaultDuration.the-variants as asked
+use Rattle.expiring_model.specs.Model.{Change, keep, set, drop, dropExpired, dropAll, look, fresh, pairsAfter, hasCome, livesAt, valueIn}
+use Rattle.expiring_model.specs.Discards.{discards, heapAfter}
 use Rattle.expiring.specs.Book.{capacityOf, limitOf, rest, IsBook, heapOf, modelOf, Kept}
 
 -- ---- the answers of the layers below, where they refuse nothing

@@ -3,17 +3,19 @@ ghost use mathlib.Core.Path.{_≡_};
 ghost use lib.ListN.{length};
 ghost use Rattle.time.specs.declared.refusal.Outcome.the-variants.{Refused};
 ghost use Rattle.fast_lru.specs.Model.{without};
-ghost use Rattle.expiring.specs.declared.answers.Answer.the-variants as answers;
-ghost use Rattle.expiring.specs.Model.{contains, peek, get, insert, remove, clear, insertWithTtl, ttlStatus, setTtl, purgeExpired, liveLen, expirations, nextDeadline, touch, recencyRank, popLru, peekLru, keep, set, drop, dropAll, rankIn};
+ghost use Rattle.expiring_model.specs.declared.answers.Answer.the-variants as answers;
+ghost use Rattle.expiring_model.specs.Model.{contains, peek, get, insert, remove, clear, insertWithTtl, ttlStatus, setTtl, purgeExpired, liveLen, expirations, nextDeadline, touch, recencyRank, popLru, peekLru, keep, set, drop, dropAll, rankIn};
 ghost use Rattle.expiring.specs.Book.{Room, limitsOf, capacityOf, limitOf};
 ghost use Rattle.expiring.specs.Calls.{noBook, Following, Opening, Checking, DeadlinesHeld, HeapLength, SettingTtl};
 ghost use Rattle.expiring.specs.Steps.{ofFound, ofTold, ofOldest, ofDue, statusOf, isAccepted, comeBy, defaultedBy, saturatingSum, withList, withIndex, withExpired, replying, concluding, purging, DeadlineOf, Expired, Stored, StoredCount, ExpiredCount, Moved, same, Dating, Valuing, Inserting, PoppingExpired};
 ghost use Rattle.expiring.specs.Steps as steps;
-use crate::answers::Answer;
 use crate::answers::Reply;
 use expiration_index::Deadline;
 use expiration_index::Due;
 use expiration_index::ExpirationIndex;
+use expiring_model::Answer;
+use expiring_model::DefaultDuration;
+use expiring_model::DefaultTtl;
 use fast_lru::Count;
 use fast_lru::FastLru;
 use fast_lru::Found;
@@ -29,18 +31,6 @@ use time::Remaining;
 use time::Tick;
 use time::Ticked;
 use time::TtlTicks;
-
-// The lifetime of what is inserted without one of its own.
-pub enum DefaultTtl {
-    Of(TtlTicks),
-    Nothing,
-}
-
-// The same, as an opening is told it.
-pub enum DefaultDuration {
-    Of(Duration),
-    Nothing,
-}
 
 // The book's numbers; all else is in the words. Those of a refused opening are all 0.
 pub struct Expiring {

@@ -12,9 +12,6 @@
 mod answers;
 mod expiring;
 
-pub use answers::Answer;
 pub use answers::Reply;
-pub use expiring::DefaultDuration;
-pub use expiring::DefaultTtl;
 pub use expiring::Expiring;
 pub use expiring::Opened;

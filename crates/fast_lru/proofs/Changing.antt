@@ -33,7 +33,7 @@ use Rattle.fast_lru.specs.Lru.{itemOf, items, modelOf}
 use Rattle.fast_lru.specs.Steps.{nth, taking, isAt, lessItem, ValueAt, Picking, Taking, Placing}
 use Rattle.fast_lru.specs.Calls.{Opening, Clearing, Getting, Inserting, Removing, Popping, Touching}
 use Rattle.fast_lru.proofs.Items.{lookup-items, front-items}
-use Rattle.fast_lru.proofs.Limits.{done, opening-fits, admitted-fits, fits-map, list-admitted, list-after, kept-same, kept-map}
+use Rattle.fast_lru.proofs.Limits.{done, opening-fits, fits-map, list-admitted, list-after, kept-same, kept-map}
 use Rattle.fast_lru.proofs.Slots.{key-value, has-slot}
 use Rattle.fast_lru.proofs.Taking.{model-without, less-item}
 use Rattle.fast_lru.proofs.Reading.{told-never}

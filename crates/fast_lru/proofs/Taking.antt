@@ -10,7 +10,6 @@ use Rattle.linked_hash_map.specs.Calls as calls
 use Rattle.fast_lru.specs.declared.lru.FastLru.{FastLru}
 use Rattle.fast_lru.specs.declared.answers.Oldest.{Oldest}
 use Rattle.fast_lru.specs.declared.answers.Oldest.the-variants as oldest
-use Rattle.fast_lru.specs.declared.answers.Popped.{Popped}
 use Rattle.fast_lru.specs.Model.{Item, Items, without, less, itemIn}
 use Rattle.fast_lru.specs.Lru.{items, modelOf}
 use Rattle.fast_lru.specs.Steps.{lessItem, Taking}

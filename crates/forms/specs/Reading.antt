@@ -4,7 +4,6 @@ use mathlib.Core.Bool.{true, cond}
 use mathlib.Core.List.{List, [], _∷_, _++_}
 use mathlib.Core.Option.{Option, none, some}
 use Prim.Native.Nat.{ℕ}
-use Prim.Native.String.{String}
 use lib.Dec.{ltb, eqb}
 use lib.ListN.{length, getD, drop}
 use Rattle.text.specs.declared.number.Number.{Number}

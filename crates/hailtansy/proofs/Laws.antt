@@ -6,7 +6,7 @@ use Prim.Native.Nat.{ℕ, _<_, _≤_}
 use native.Mathlib.Omega.{arith}
 use lib.ListN.{length}
 use Rattle.expiring.specs.declared.answers.Reply.{Reply}
-use Rattle.expiring.specs.Model.{Call}
+use Rattle.expiring_model.specs.Model.{Call}
 use Rattle.expiring.specs.Calls.{Following}
 use Rattle.replay.specs.Runs.{withAnswer}
 use Rattle.replay_expiring.specs.Numbers.{bookIn, withBook}

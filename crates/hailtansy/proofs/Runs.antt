@@ -6,14 +6,14 @@ use Prim.Native.Nat.{ℕ, _+_, _^_, _<_, _≤_}
 use native.Mathlib.Omega.{arith}
 use lib.ListN.{length, getD}
 use Rattle.time.specs.declared.refusal.Outcome.the-variants.{Done}
-use Rattle.lazy_heap.specs.Model.{heapLen, opened}
-use Rattle.expiring.specs.declared.answers.Answer.{Answer}
+use Rattle.lazy_heap_model.specs.Model.{heapLen, opened}
+use Rattle.expiring_model.specs.declared.answers.Answer.{Answer}
 use Rattle.expiring.specs.declared.answers.Reply.{Reply}
 use Rattle.expiring.specs.declared.expiring.Expiring.{Expiring}
-use Rattle.expiring.specs.Model.{Book, Call, fresh, answerOf, bookAfter}
+use Rattle.expiring_model.specs.Model.{Book, Call, fresh, answerOf, bookAfter}
 use Rattle.expiring.specs.Book.{IsBook, heapOf}
-use Rattle.expiring.specs.Calls.{defaultOf}
-use Rattle.expiring.specs.Runs.{Calls, answersOf, bookAtEnd}
+use Rattle.expiring_model.specs.Model.{defaultOf}
+use Rattle.expiring_model.specs.Lists.{Calls, answersOf, bookAtEnd}
 use Rattle.expiring.proofs.Accounts.{counted}
 use Rattle.expiring.proofs.Runs.{ReadsAs}
 use Rattle.replay.specs.Runs.{withAnswer}

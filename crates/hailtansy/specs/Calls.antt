@@ -4,11 +4,11 @@ use mathlib.Core.List.{List}
 use Prim.Native.Nat.{ℕ, _^_, _<_, _≤_}
 use lib.ListN.{length, getD}
 use Rattle.time.specs.declared.tick.Tick.{Tick}
-use Rattle.lazy_heap.specs.Model.{Heap}
+use Rattle.lazy_heap_model.specs.Model.{Heap}
 use Rattle.expiring.specs.declared.answers.Reply.{Reply}
 use Rattle.expiring.specs.declared.expiring.Expiring.{Expiring}
-use Rattle.expiring.specs.Model.{Book, Call, bookAfter}
-use Rattle.expiring.specs.Discards.{heapBy}
+use Rattle.expiring_model.specs.Model.{Book, Call, bookAfter}
+use Rattle.expiring_model.specs.Discards.{heapBy}
 use Rattle.expiring.specs.Calls.{Following}
 use Rattle.replay.specs.Runs.{withAnswer}
 use Rattle.replay_expiring.specs.Numbers.{bookIn}

@@ -4,10 +4,10 @@ use mathlib.Core.Path.{_≡_}
 use mathlib.Core.List.{List, [], _∷_, _++_}
 use Prim.Native.Nat.{ℕ, _+_}
 use lib.ListN.{length}
-use Rattle.lazy_heap.specs.Model.{heapLen}
-use Rattle.expiring.specs.Model.{Book, Call}
+use Rattle.lazy_heap_model.specs.Model.{heapLen}
+use Rattle.expiring_model.specs.Model.{Book, Call}
 use Rattle.expiring.specs.Book.{IsBook, heapOf, modelOf}
-use Rattle.expiring.specs.Runs.{Calls, answersOf, bookAtEnd}
+use Rattle.expiring_model.specs.Lists.{Calls, answersOf, bookAtEnd}
 use Rattle.replay.specs.declared.answer.Answer as replay
 use Rattle.replay_expiring.specs.Numbers.{bookIn}
 use Rattle.replay_expiring.specs.Runs.{toldIn, discardedIn, wordsOf}

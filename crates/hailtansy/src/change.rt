@@ -1,6 +1,6 @@
 // Calls that may change the book.
 ghost use Rattle.time.specs.Duration.{durationOf};
-ghost use Rattle.expiring.specs.Model.{get, insert, insertWithTtl, remove, clear, setTtl, purgeExpired, nextDeadline, touch, popLru};
+ghost use Rattle.expiring_model.specs.Model.{get, insert, insertWithTtl, remove, clear, setTtl, purgeExpired, nextDeadline, touch, popLru};
 ghost use Rattle.hailtansy.specs.Calls.{Called};
 use crate::tell;
 use time::Duration;

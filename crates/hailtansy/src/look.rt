@@ -1,5 +1,5 @@
 // Calls that look, and change nothing.
-ghost use Rattle.expiring.specs.Model.{contains, peek, ttlStatus, recencyRank, liveLen, expirations, peekLru};
+ghost use Rattle.expiring_model.specs.Model.{contains, peek, ttlStatus, recencyRank, liveLen, expirations, peekLru};
 ghost use Rattle.hailtansy.specs.Calls.{Looked};
 use crate::tell;
 use time::Tick;

@@ -12,9 +12,8 @@ use Rattle.binary_heap.specs.Order.{is, count}
 use Rattle.binary_heap.proofs.Counts.{Is, same, other, which}
 use Rattle.linked_hash_map.specs.declared.map.Record.{Record}
 use Rattle.linked_hash_map.specs.Model.{Distinct}
-use Rattle.lazy_heap.specs.Model.{Heap, entryOf, fromLive, surplus, tooMany, rebuilt, numbered, renumbered, maybeRebuilt, isFull, beforePush, pushed, updated, updateDiscards, peeked, popped, poppedFrom}
+use Rattle.lazy_heap_model.specs.Model.{Heap, entryOf, fromLive, surplus, tooMany, rebuilt, numbered, renumbered, maybeRebuilt, isFull, beforePush, pushed, updated, updateDiscards, peeked, popped, poppedFrom, stale}
 use Rattle.lazy_heap.specs.Valid.{Valid}
-use Rattle.lazy_heap.specs.Calls.{stale}
 use Rattle.lazy_heap.proofs.Helds.{missing-key}
 use Rattle.lazy_heap.proofs.Valid.{is-other, live-length, numbered-length, from-length, valid-pushed}
 use Rattle.lazy_heap.proofs.Calling.{Fair}

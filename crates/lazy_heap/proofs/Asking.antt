@@ -19,7 +19,7 @@ use Rattle.lazy_heap.specs.declared.heap.LazyMinHeap.{LazyMinHeap}
 use Rattle.lazy_heap.specs.declared.heap.Number.the-variants as number
 use Rattle.lazy_heap.specs.declared.heap.Flag.the-variants as flag
 use Rattle.lazy_heap.specs.Words.{part, limitsOf}
-use Rattle.lazy_heap.specs.Model.{Heap, entryOf, len, heapLen, countAtMost, atMost}
+use Rattle.lazy_heap_model.specs.Model.{Heap, entryOf, len, heapLen, countAtMost, atMost}
 use Rattle.lazy_heap.specs.Valid.{Valid}
 use Rattle.lazy_heap.specs.Heap.{modelOf}
 use Rattle.lazy_heap.specs.Calls.{Asking, AskingEmpty}

@@ -13,11 +13,11 @@ use Rattle.linked_hash_map.specs.Calls as scores
 use Rattle.time.specs.declared.refusal.Outcome.the-variants.{Done}
 use Rattle.lazy_heap.specs.declared.heap.LazyMinHeap.{LazyMinHeap}
 use Rattle.lazy_heap.specs.declared.heap.Step.{Step}
-use Rattle.lazy_heap.specs.declared.heap.Best.{Best}
-use Rattle.lazy_heap.specs.declared.heap.Best.the-variants as best
+use Rattle.lazy_heap_model.specs.declared.scores.Best.{Best}
+use Rattle.lazy_heap_model.specs.declared.scores.Best.the-variants as best
 use Rattle.lazy_heap.specs.Answers.{ofBest}
 use Rattle.lazy_heap.specs.Words.{limitsOf, Kept}
-use Rattle.lazy_heap.specs.Model.{Heap, bestIn, fromLive, removed, peeked, popped, poppedFrom}
+use Rattle.lazy_heap_model.specs.Model.{Heap, bestIn, fromLive, removed, peeked, popped, poppedFrom}
 use Rattle.lazy_heap.specs.Valid.{Valid}
 use Rattle.lazy_heap.specs.Heap.{heldOf, entriesOf, modelOf, Parts, IsHeap}
 use Rattle.lazy_heap.specs.Steps.{bestOf, Discarding, Peeking, Popping}

@@ -23,10 +23,10 @@ use Rattle.time.specs.declared.refusal.Outcome.{Outcome}
 use Rattle.time.specs.declared.refusal.Outcome.the-variants.{Done, Refused}
 use Rattle.lazy_heap.specs.declared.heap.LazyMinHeap.{LazyMinHeap}
 use Rattle.lazy_heap.specs.declared.heap.Step.{Step}
-use Rattle.lazy_heap.specs.declared.heap.Score.{Score}
+use Rattle.lazy_heap_model.specs.declared.scores.Score.{Score}
 use Rattle.lazy_heap.specs.Answers.{ofScore}
 use Rattle.lazy_heap.specs.Words.{wordsFor, start, part, limitsOf, limitsWith, Room, Kept}
-use Rattle.lazy_heap.specs.Model.{Heap, atLeastOne, surplus, tooMany, heldScore, opened, withFactor, removed, peeked, rebuilt, maybeRebuilt, numbered, renumbered, cleared}
+use Rattle.lazy_heap_model.specs.Model.{Heap, atLeastOne, surplus, tooMany, heldScore, opened, withFactor, removed, peeked, rebuilt, maybeRebuilt, numbered, renumbered, cleared}
 use Rattle.lazy_heap.specs.Valid.{Valid}
 use Rattle.lazy_heap.specs.Heap.{modelOf, Parts, IsHeap}
 use Rattle.lazy_heap.specs.Steps.{Rebuilding, Renumbering, Trimming}

@@ -15,7 +15,7 @@ use Rattle.linked_hash_map.specs.Map as map
 use Rattle.linked_hash_map.specs.Calls.{Reading, Ending, Next}
 use Rattle.linked_hash_map.proofs.Laws.{place-taken, place-below}
 use Rattle.linked_hash_map.proofs.Putting.{model-length}
-use Rattle.lazy_heap.specs.Model.{countAtMost}
+use Rattle.lazy_heap_model.specs.Model.{countAtMost}
 use Rattle.lazy_heap.specs.Valid.{Falling}
 use Rattle.lazy_heap.specs.Steps.{slotNumber}
 use Rattle.lazy_heap.specs.Walks.{CountingAtMost, RecordsValid}

@@ -14,7 +14,7 @@ use Rattle.linked_hash_map.specs.declared.map.Record.{Record}
 use Rattle.linked_hash_map.specs.declared.map.Taken.{Taken}
 use Rattle.linked_hash_map.specs.declared.map.Taken.the-variants as taken
 use Rattle.linked_hash_map.specs.Model.{has, lookup, without, Distinct}
-use Rattle.lazy_heap.specs.Model.{entryOf, matches, live}
+use Rattle.lazy_heap_model.specs.Model.{entryOf, matches, live}
 use Rattle.lazy_heap.specs.Valid.{Falling}
 
 -- ---- membership and keys

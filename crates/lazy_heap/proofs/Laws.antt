@@ -19,7 +19,7 @@ use Rattle.linked_hash_map.specs.declared.map.Record.{Record}
 use Rattle.linked_hash_map.proofs.Laws as map
 use Rattle.lazy_heap.specs.declared.heap.LazyMinHeap.{LazyMinHeap}
 use Rattle.lazy_heap.specs.Words.{wordsFor, start, part}
-use Rattle.lazy_heap.specs.Model.{Heap, entryOf, live, fromLive, atLeastOne, tooMany, rebuilt, maybeRebuilt, updated, peeked, popped, poppedFrom}
+use Rattle.lazy_heap_model.specs.Model.{Heap, entryOf, live, fromLive, atLeastOne, tooMany, rebuilt, maybeRebuilt, updated, peeked, popped, poppedFrom}
 use Rattle.lazy_heap.specs.Valid.{Valid}
 use Rattle.lazy_heap.specs.Heap.{modelOf, IsHeap}
 use Rattle.lazy_heap.proofs.Parts.{part-length}

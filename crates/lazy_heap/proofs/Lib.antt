@@ -12,7 +12,6 @@ pub mod Calling
 pub mod Asking
 pub mod Best
 pub mod Updating
-pub mod Samples
 pub mod Accounts
 pub mod Numbers
 pub mod Laws

@@ -11,7 +11,7 @@ use borrow.Author.Tests.{ne-eqb, eqb-true}
 use Rattle.binary_heap.specs.declared.entries.Entry.{Entry}
 use Rattle.binary_heap.specs.Order.{le, insert, sort}
 use Rattle.linked_hash_map.specs.declared.map.Record.{Record}
-use Rattle.lazy_heap.specs.Model.{Heap, entryOf, live, fromLive, tooMany, rebuilt, numbered, renumbered, isFull, beforePush, pushed, maybeRebuilt, updated, removed, peeked, popped, poppedFrom}
+use Rattle.lazy_heap_model.specs.Model.{Heap, entryOf, live, fromLive, tooMany, rebuilt, numbered, renumbered, isFull, beforePush, pushed, maybeRebuilt, updated, removed, peeked, popped, poppedFrom}
 use Rattle.lazy_heap.specs.Valid.{Falling, Valid, withNumber, Different}
 use Rattle.lazy_heap.proofs.Valid.{numbered-falling, valid-pushed}
 use Rattle.lazy_heap.proofs.Calling.{Fair}

@@ -25,7 +25,7 @@ use Rattle.linked_hash_map.proofs.Laws.{place-taken, map-distinct}
 use Rattle.linked_hash_map.proofs.Putting.{model-length}
 use Rattle.lazy_heap.specs.declared.heap.LazyMinHeap.{LazyMinHeap}
 use Rattle.lazy_heap.specs.Words.{part}
-use Rattle.lazy_heap.specs.Model.{entryOf, numbered}
+use Rattle.lazy_heap_model.specs.Model.{entryOf, numbered}
 use Rattle.lazy_heap.specs.Heap.{heldOf, entriesOf, Parts}
 use Rattle.lazy_heap.specs.Steps.{Entered, Pushing, slotNumber}
 use Rattle.lazy_heap.proofs.Settling.{entered-then, entered-same}

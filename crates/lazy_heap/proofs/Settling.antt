@@ -21,7 +21,7 @@ use Rattle.linked_hash_map.specs.Map as map
 use Rattle.linked_hash_map.proofs.Laws.{Keyed, held, absent, keyed}
 use Rattle.lazy_heap.specs.declared.heap.LazyMinHeap.{LazyMinHeap}
 use Rattle.lazy_heap.specs.Words.{part, Room}
-use Rattle.lazy_heap.specs.Model.{live, staleBefore, fromLive}
+use Rattle.lazy_heap_model.specs.Model.{live, staleBefore, fromLive}
 use Rattle.lazy_heap.specs.Heap.{heldOf, entriesOf, Parts}
 use Rattle.lazy_heap.specs.Steps.{Entered, Popping, settledBy, Settled, Discarding}
 use Rattle.lazy_heap.specs.Walks.{LivingAt}

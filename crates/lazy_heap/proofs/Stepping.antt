@@ -27,12 +27,12 @@ use Rattle.linked_hash_map.specs.Calls.{Putting}
 use Rattle.linked_hash_map.proofs.Laws.{held}
 use Rattle.linked_hash_map.proofs.Putting.{model-length}
 use Rattle.lazy_heap.specs.declared.heap.LazyMinHeap.{LazyMinHeap}
-use Rattle.lazy_heap.specs.declared.heap.Score.{Score}
-use Rattle.lazy_heap.specs.declared.heap.Score.the-variants as score
+use Rattle.lazy_heap_model.specs.declared.scores.Score.{Score}
+use Rattle.lazy_heap_model.specs.declared.scores.Score.the-variants as score
 use Rattle.time.specs.declared.refusal.Outcome.the-variants.{Done}
 use Rattle.lazy_heap.specs.Answers.{ofScore}
 use Rattle.lazy_heap.specs.Words.{wordsFor, start, part, Kept}
-use Rattle.lazy_heap.specs.Model.{Heap, entryOf, atLeastOne, liveEntries, surplus, tooMany, rebuilt, numbered, renumbered, isFull, beforePush, pushed, maybeRebuilt, heldScore}
+use Rattle.lazy_heap_model.specs.Model.{Heap, entryOf, atLeastOne, liveEntries, surplus, tooMany, rebuilt, numbered, renumbered, isFull, beforePush, pushed, maybeRebuilt, heldScore}
 use Rattle.lazy_heap.specs.Heap.{heldOf, entriesOf, modelOf, Parts}
 use Rattle.lazy_heap.specs.Steps.{after, replacedScore, Crowding, Pushing, Rebuilding, Numbered, Renumbering, Fitting, Trimming, Holding}
 use Rattle.lazy_heap.proofs.Parts.{part-same}

@@ -26,7 +26,7 @@ use Rattle.linked_hash_map.specs.declared.map.Taken.the-variants as taken
 use Rattle.linked_hash_map.specs.Map as map
 use Rattle.linked_hash_map.proofs.Laws.{slot-key, slot-below, map-distinct}
 use Rattle.lazy_heap.specs.Words.{part}
-use Rattle.lazy_heap.specs.Model.{entryOf, live}
+use Rattle.lazy_heap_model.specs.Model.{entryOf, live}
 use Rattle.lazy_heap.specs.Walks.{LivingAt, oneMore, seen, Tallied, Blank, Tallying}
 use Rattle.lazy_heap.proofs.Helds.{lookup-mem, held-live, live-held}
 

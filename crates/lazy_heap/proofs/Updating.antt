@@ -25,9 +25,9 @@ use Rattle.time.specs.declared.refusal.Outcome.the-variants.{Done, Refused}
 use Rattle.lazy_heap.specs.declared.heap.LazyMinHeap.{LazyMinHeap}
 use Rattle.lazy_heap.specs.declared.heap.Step.{Step}
 use Rattle.lazy_heap.specs.declared.heap.Held.{Held}
-use Rattle.lazy_heap.specs.declared.heap.Score.the-variants as score
+use Rattle.lazy_heap_model.specs.declared.scores.Score.the-variants as score
 use Rattle.lazy_heap.specs.Words.{part, limitsOf, Room}
-use Rattle.lazy_heap.specs.Model.{Heap, entryOf, atLeastOne, surplus, tooMany, numbered, heldScore, isFull, beforePush, renumbered, pushed, rebuilt, maybeRebuilt, updated, updateDiscards}
+use Rattle.lazy_heap_model.specs.Model.{Heap, entryOf, atLeastOne, surplus, tooMany, numbered, heldScore, isFull, beforePush, renumbered, pushed, rebuilt, maybeRebuilt, updated, updateDiscards}
 use Rattle.lazy_heap.specs.Valid.{Valid}
 use Rattle.lazy_heap.specs.Heap.{heldOf, entriesOf, modelOf, Parts, IsHeap}
 use Rattle.lazy_heap.specs.Steps.{Filling, Adding, Fitting, Holding, Trimming}

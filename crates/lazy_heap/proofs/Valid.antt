@@ -12,7 +12,7 @@ use Rattle.binary_heap.specs.Order.{le, insert, Sorted, is, count}
 use Rattle.rings.proofs.Counts.{by-lt}
 use Rattle.linked_hash_map.specs.declared.map.Record.{Record}
 use Rattle.linked_hash_map.specs.Model.{has, without, Distinct}
-use Rattle.lazy_heap.specs.Model.{Heap, entryOf, live, fromLive, staleBefore, liveEntries, opened, rebuilt, numbered, renumbered, pushed, removed, peeked, poppedFrom, popped, cleared}
+use Rattle.lazy_heap_model.specs.Model.{Heap, entryOf, live, fromLive, staleBefore, liveEntries, opened, rebuilt, numbered, renumbered, pushed, removed, peeked, poppedFrom, popped, cleared}
 use Rattle.lazy_heap.specs.Valid.{Falling, Valid}
 use Rattle.binary_heap.proofs.Counts.{Is, same, other, which, is-same, count-mem}
 use Rattle.binary_heap.proofs.Sorting.{insert-count, insert-cases, insert-sorted, sort-length, sort-count, sort-sorted, sort-mem}

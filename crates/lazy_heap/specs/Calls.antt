@@ -12,9 +12,9 @@ use Rattle.time.specs.declared.refusal.Outcome.{Outcome}
 use Rattle.time.specs.declared.refusal.Outcome.the-variants.{Done, Refused}
 use Rattle.linked_hash_map.specs.Model.{lookup}
 use Rattle.lazy_heap.specs.declared.heap.LazyMinHeap.{LazyMinHeap}
-use Rattle.lazy_heap.specs.declared.heap.Score.{Score}
-use Rattle.lazy_heap.specs.declared.heap.Score.the-variants as score
-use Rattle.lazy_heap.specs.declared.heap.Best.{Best}
+use Rattle.lazy_heap_model.specs.declared.scores.Score.{Score}
+use Rattle.lazy_heap_model.specs.declared.scores.Score.the-variants as score
+use Rattle.lazy_heap_model.specs.declared.scores.Best.{Best}
 use Rattle.lazy_heap.specs.declared.heap.Number.{Number}
 use Rattle.lazy_heap.specs.declared.heap.Number.the-variants as number
 use Rattle.lazy_heap.specs.declared.heap.Flag.{Flag}
@@ -25,7 +25,7 @@ use Rattle.lazy_heap.specs.declared.heap.Bested.{Bested}
 use Rattle.lazy_heap.specs.declared.heap.Stepped.{Stepped}
 use Rattle.lazy_heap.specs.Answers.{ofScore, ofBest, ofNumber, ofFlag}
 use Rattle.lazy_heap.specs.Words.{limitsOf, limitsWith, Kept}
-use Rattle.lazy_heap.specs.Model.{Heap, surplus, tooMany, len, heldScore, bestIn, staleBefore, fromLive, opened, withFactor, isFull, updated, updateDiscards, removed, peeked, popped, rebuilt, maybeRebuilt, renumbered, cleared}
+use Rattle.lazy_heap_model.specs.Model.{Heap, surplus, tooMany, len, heldScore, stale, bestOfHeap, opened, withFactor, isFull, updated, updateDiscards, removed, peeked, popped, rebuilt, maybeRebuilt, renumbered, cleared}
 use Rattle.lazy_heap.specs.Heap.{modelOf, IsHeap}
 
 -- the numbers of a refused opening
@@ -106,12 +106,6 @@ pub record Removing (ws : List ℕ) (h : LazyMinHeap) (k : ℕ) (ws′ : List �
   pub answer : IsHeap ws h → r .answer ≡ heldScore (lookup k (modelOf ws h .held))
 
 -- the entries before the first live one
-abbrev pub stale : Heap → ℕ
-stale h = staleBefore (h .held) (h .entries)
-
-abbrev pub bestOfHeap : Heap → Best
-bestOfHeap h = bestIn (fromLive (h .held) (h .entries))
-
 -- `peek_best`
 pub record PeekingBest (ws : List ℕ) (h : LazyMinHeap) (ws′ : List ℕ) (r : Bested) : Type 0 where
   pub call : Call ws h (limitsIn ws h) (ofBest (r .answer)) peeked stale ws′ (r .heap) (r .discarded)

@@ -8,7 +8,7 @@ use Rattle.linked_hash_map.specs.declared.map.Record.{Record}
 use Rattle.linked_hash_map.specs.Map as map
 use Rattle.lazy_heap.specs.declared.heap.LazyMinHeap.{LazyMinHeap}
 use Rattle.lazy_heap.specs.Words.{part, Room}
-use Rattle.lazy_heap.specs.Model.{Heap}
+use Rattle.lazy_heap_model.specs.Model.{Heap}
 use Rattle.lazy_heap.specs.Valid.{Valid}
 
 -- the held keys, latest set first, and the entries in ascending order

@@ -1,9 +1,7 @@
 pub mod Words
-pub mod Model
 pub mod Valid
 pub mod Heap
 pub mod Answers
 pub mod Steps
 pub mod Calls
-pub mod Samples
 pub mod Walks

@@ -22,14 +22,14 @@ use Rattle.linked_hash_map.specs.Map as map
 use Rattle.lazy_heap.specs.declared.heap.LazyMinHeap.{LazyMinHeap}
 use Rattle.lazy_heap.specs.declared.heap.Step.{Step}
 use Rattle.lazy_heap.specs.declared.heap.Held.{Held}
-use Rattle.lazy_heap.specs.declared.heap.Score.{Score}
-use Rattle.lazy_heap.specs.declared.heap.Score.the-variants as score
-use Rattle.lazy_heap.specs.declared.heap.Best.{Best}
-use Rattle.lazy_heap.specs.declared.heap.Best.the-variants as best
+use Rattle.lazy_heap_model.specs.declared.scores.Score.{Score}
+use Rattle.lazy_heap_model.specs.declared.scores.Score.the-variants as score
+use Rattle.lazy_heap_model.specs.declared.scores.Best.{Best}
+use Rattle.lazy_heap_model.specs.declared.scores.Best.the-variants as best
 use Rattle.time.specs.declared.refusal.Outcome.the-variants.{Done}
 use Rattle.lazy_heap.specs.Answers.{ofScore}
 use Rattle.lazy_heap.specs.Words.{start, Kept}
-use Rattle.lazy_heap.specs.Model.{live, staleBefore, fromLive, atLeastOne, surplus, liveEntries, numbered, renumbered, tooMany, isFull, beforePush, maybeRebuilt, pushed, heldScore}
+use Rattle.lazy_heap_model.specs.Model.{live, staleBefore, fromLive, atLeastOne, surplus, liveEntries, numbered, renumbered, tooMany, isFull, beforePush, maybeRebuilt, pushed, heldScore}
 use Rattle.lazy_heap.specs.Heap.{heldOf, entriesOf, modelOf, Parts}
 
 -- the number after s, which is not the last

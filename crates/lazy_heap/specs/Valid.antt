@@ -9,7 +9,7 @@ use Rattle.binary_heap.specs.declared.entries.Entry.{Entry}
 use Rattle.binary_heap.specs.Order.{Sorted, count}
 use Rattle.linked_hash_map.specs.declared.map.Record.{Record}
 use Rattle.linked_hash_map.specs.Model.{Distinct}
-use Rattle.lazy_heap.specs.Model.{Heap, entryOf}
+use Rattle.lazy_heap_model.specs.Model.{Heap, entryOf}
 
 -- sequence numbers fall from the latest set to the earliest, and all are below a number
 abbrev pub Falling : ℕ → List Record → Type 0

@@ -15,7 +15,7 @@ use Rattle.linked_hash_map.specs.declared.map.Slot.the-variants as slot
 use Rattle.linked_hash_map.specs.Map as map
 use Rattle.lazy_heap.specs.declared.heap.LazyMinHeap.{LazyMinHeap}
 use Rattle.lazy_heap.specs.Words.{part}
-use Rattle.lazy_heap.specs.Model.{entryOf, live, countAtMost, atMost}
+use Rattle.lazy_heap_model.specs.Model.{entryOf, live, countAtMost, atMost}
 use Rattle.lazy_heap.specs.Valid.{Falling, Valid}
 use Rattle.lazy_heap.specs.Heap.{modelOf, Parts}
 

@@ -1,9 +1,9 @@
 // The heap's calls. A public call tests the limits and hands on to a private function, which may count on them.
 ghost use mathlib.Core.Path.{_≡_};
-ghost use Prim.Native.Nat.{_-_, _≤_};
+ghost use Prim.Native.Nat.{_-_};
 ghost use lib.ListN.{length};
 ghost use Rattle.lazy_heap.specs.Words.{limitsOf, limitsWith, Room};
-ghost use Rattle.lazy_heap.specs.Model.{atLeastOne, heldScore, factorOf, len, heapLen, atMost};
+ghost use Rattle.lazy_heap_model.specs.Model.{atLeastOne, heldScore, factorOf, len, heapLen, atMost};
 ghost use Rattle.lazy_heap.specs.Calls.{Opening, Resetting, Asking, AskingEmpty, Scoring, Removing, PeekingBest, PoppingBest, RebuildingNow, RebuildingMaybe, RenumberingNow, Clearing, Updating, Checking};
 ghost use Rattle.lazy_heap.specs.Steps.{bestOf, Adding, Filling, after, replacedScore, Crowding, Living, Pushing, Popping, Peeking, Settled, Discarding, Rebuilding, Numbered, Renumbering, Fitting, Trimming, Holding};
 ghost use Rattle.lazy_heap.specs.Walks.{CountingWithin, Sound, Agreeing};
@@ -11,6 +11,8 @@ use crate::walks;
 use crate::walks::slot_number;
 use binary_heap::Entry;
 use binary_heap::Top;
+use lazy_heap_model::Best;
+use lazy_heap_model::Score;
 use linked_hash_map::LinkedHashMap;
 use linked_hash_map::Placed;
 use linked_hash_map::Record;
@@ -25,18 +27,6 @@ pub struct LazyMinHeap {
     pub entries: usize,
     pub seq: u64,
     pub factor: usize,
-}
-
-pub enum Score {
-    Value(u64),
-    Nothing,
-    Refused(Refusal),
-}
-
-pub enum Best {
-    Pair(u64, u64),
-    Nothing,
-    Refused(Refusal),
 }
 
 pub enum Number {

@@ -13,12 +13,10 @@
 mod heap;
 mod walks;
 
-pub use heap::Best;
 pub use heap::Bested;
 pub use heap::Flag;
 pub use heap::LazyMinHeap;
 pub use heap::Number;
 pub use heap::Opened;
-pub use heap::Score;
 pub use heap::Stepped;
 pub use heap::Updated;

@@ -19,7 +19,6 @@ use Rattle.cells.proofs.Probing.{at-found, free-vacant}
 use Rattle.cells.proofs.Indexing.{erased-length, erased-outside, never-full}
 use Rattle.linked_hash_map.specs.declared.map.LinkedHashMap.{LinkedHashMap}
 use Rattle.linked_hash_map.specs.declared.map.Record.{Record}
-use Rattle.linked_hash_map.specs.declared.map.Removed.{Removed}
 use Rattle.linked_hash_map.specs.declared.map.Taken.the-variants as taken
 use Rattle.linked_hash_map.specs.Words.{fit, recordAt, takenOut, putIn}
 use Rattle.linked_hash_map.specs.Numbers.{shrunkMap, Grown, Renewing}
@@ -29,7 +28,7 @@ use Rattle.linked_hash_map.specs.Calls.{Recycling, Removing}
 use Rattle.linked_hash_map.proofs.Records.{Search, found, missing, search-key, records, without-records}
 use Rattle.linked_hash_map.proofs.Frames.{record-below, record-written, record-written-other}
 use Rattle.linked_hash_map.proofs.Laid.{Laid, of-map, to-map, live-is, live-below, laid-recycled}
-use Rattle.linked_hash_map.proofs.Keeping.{kept-same, kept-then, kept-erased, kept-put, kept-taken}
+use Rattle.linked_hash_map.proofs.Keeping.{kept-same, kept-then, kept-erased, kept-put}
 use Rattle.linked_hash_map.proofs.Probed.{hit, miss, free-not-at, free-not-full, live-length}
 use Rattle.linked_hash_map.proofs.Finding.{unfit}
 use Rattle.linked_hash_map.proofs.Putting.{removing-at, in-front, put-record, grown-laid, grown-record, grown-kept}

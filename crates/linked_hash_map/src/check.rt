@@ -1,6 +1,6 @@
 // The parts of the check.
 ghost use mathlib.Core.Path.{_≡_};
-ghost use Prim.Native.Nat.{_+_, _<_, _≤_};
+ghost use Prim.Native.Nat.{_+_, _<_};
 ghost use lib.ListN.{length};
 ghost use Rattle.rings.specs.Ring.{next, walks as walksOf};
 ghost use Rattle.cells.specs.Cells.{cellCount};

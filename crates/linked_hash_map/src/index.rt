@@ -3,7 +3,7 @@ ghost use mathlib.Core.Path.{_≡_};
 ghost use Prim.Native.Nat.{_+_, _*_, _<_, _≤_};
 ghost use lib.ListN.{length};
 ghost use Rattle.cells.specs.Cells.{cellsFrom, cellWords, cellCount, weight, cellAt, setCell, cellAfter, homeOf, erased, zeroed};
-ghost use Rattle.cells.specs.Probe.{entered, firstOf};
+ghost use Rattle.cells.specs.Probe.{entered};
 ghost use Rattle.cells.specs.Probe.{probe as probeOf};
 ghost use Rattle.linked_hash_map.specs.Words.{Room};
 use cells::Probe;

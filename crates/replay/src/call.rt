@@ -1,6 +1,6 @@
 // Calls and answers in slices, four words each.
 ghost use mathlib.Core.Path.{_≡_};
-ghost use Prim.Native.Nat.{_+_, _*_, _/_, _≤_, min};
+ghost use Prim.Native.Nat.{_+_, _*_, _/_, _≤_};
 ghost use lib.ListN.{length};
 ghost use Rattle.replay.specs.Runs.{callAt, withAnswer, roomIn};
 use crate::answer::Answer;

@@ -7,8 +7,8 @@ use native.Mathlib.Omega.{arith}
 use lib.ListN.{length, getD, length-set}
 use lib.Seq.{getD-set-other}
 use Rattle.expiring.specs.declared.expiring.Expiring.{Expiring}
-use Rattle.expiring.specs.declared.expiring.DefaultTtl.{DefaultTtl}
-use Rattle.expiring.specs.declared.expiring.DefaultTtl.the-variants as default
+use Rattle.expiring_model.specs.declared.lifetimes.DefaultTtl.{DefaultTtl}
+use Rattle.expiring_model.specs.declared.lifetimes.DefaultTtl.the-variants as default
 use Rattle.replay_expiring.specs.Numbers.{defaultIn, bookIn, givenOf, ticksOf, withBook}
 
 default-stored : (l : DefaultTtl) → defaultIn (givenOf l) (ticksOf l) ≡ l

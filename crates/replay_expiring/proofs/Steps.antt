@@ -7,15 +7,15 @@ use native.Mathlib.Omega.{arith}
 use Rattle.time.specs.declared.tick.Tick.{Tick}
 use Rattle.time.specs.declared.refusal.Outcome.{Outcome}
 use Rattle.time.specs.declared.refusal.Outcome.the-variants as outcome
-use Rattle.lazy_heap.specs.Model.{Heap, heapLen}
-use Rattle.expiring.specs.declared.answers.Answer.{Answer}
+use Rattle.lazy_heap_model.specs.Model.{Heap, heapLen}
+use Rattle.expiring_model.specs.declared.answers.Answer.{Answer}
 use Rattle.expiring.specs.declared.answers.Reply.{Reply}
 use Rattle.expiring.specs.declared.expiring.Expiring.{Expiring}
-use Rattle.expiring.specs.Model.{Book, Call, contains, peek, ttlStatus, recencyRank, liveLen, expirations, peekLru, changeOf, pairsAfter, replacedBy, removedBy, storedAfter, expiredBy, badNanos, refusalOf, accepted, answerOf, bookAfter}
-use Rattle.expiring.specs.Discards.{heapAfter, heapBy}
+use Rattle.expiring_model.specs.Model.{Book, Call, contains, peek, ttlStatus, recencyRank, liveLen, expirations, peekLru, changeOf, pairsAfter, replacedBy, removedBy, storedAfter, expiredBy, badNanos, refusalOf, accepted, answerOf, bookAfter}
+use Rattle.expiring_model.specs.Discards.{heapAfter, heapBy}
 use Rattle.expiring.specs.Book.{IsBook, heapOf}
 use Rattle.expiring.specs.Calls.{Following}
-use Rattle.expiring.specs.Runs.{answersOf, bookAtEnd}
+use Rattle.expiring_model.specs.Lists.{answersOf, bookAtEnd}
 use Rattle.expiring.specs.Runs as book
 use Rattle.expiring.proofs.Accounts.{counted}
 use Rattle.expiring.proofs.Runs.{ReadsAs, Ran, follow}

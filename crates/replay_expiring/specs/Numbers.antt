@@ -7,8 +7,8 @@ use lib.ListN.{getD, set}
 use Rattle.fast_lru.specs.declared.lru.FastLru.{FastLru}
 use Rattle.expiration_index.specs.declared.index.ExpirationIndex.{ExpirationIndex}
 use Rattle.expiring.specs.declared.expiring.Expiring.{Expiring}
-use Rattle.expiring.specs.declared.expiring.DefaultTtl.{DefaultTtl}
-use Rattle.expiring.specs.declared.expiring.DefaultTtl.the-variants as default
+use Rattle.expiring_model.specs.declared.lifetimes.DefaultTtl.{DefaultTtl}
+use Rattle.expiring_model.specs.declared.lifetimes.DefaultTtl.the-variants as default
 use Rattle.replay_linked_hash_map.specs.Numbers.{mapIn, withMap}
 
 abbrev pub lruIn : List ℕ → FastLru

@@ -4,14 +4,14 @@ use mathlib.Core.List.{List, [], _∷_, _++_}
 use Prim.Native.Nat.{ℕ, zero, suc, _+_, _*_, _/_, _<_, _≤_, min}
 use lib.ListN.{length, getD}
 use Rattle.time.specs.declared.refusal.Outcome.{Outcome}
-use Rattle.lazy_heap.specs.Model.{heapLen}
-use Rattle.expiring.specs.declared.answers.Answer.{Answer}
+use Rattle.lazy_heap_model.specs.Model.{heapLen}
+use Rattle.expiring_model.specs.declared.answers.Answer.{Answer}
 use Rattle.expiring.specs.declared.answers.Reply.{Reply}
-use Rattle.expiring.specs.declared.expiring.DefaultDuration.{DefaultDuration}
-use Rattle.expiring.specs.Model.{Book}
+use Rattle.expiring_model.specs.declared.lifetimes.DefaultDuration.{DefaultDuration}
+use Rattle.expiring_model.specs.Model.{Book}
 use Rattle.expiring.specs.Book.{IsBook, heapOf, modelOf}
 use Rattle.expiring.specs.Calls.{Following, Opening, openingOf}
-use Rattle.expiring.specs.Runs.{Calls, answersOf, bookAtEnd}
+use Rattle.expiring_model.specs.Lists.{Calls, answersOf, bookAtEnd}
 use Rattle.replay.specs.declared.answer.Answer as replay
 use Rattle.replay.specs.Answers.{words}
 use Rattle.replay.specs.Runs.{withAnswer}

@@ -4,17 +4,16 @@ use mathlib.Core.List.{List}
 use Prim.Native.Nat.{ℕ, _+_, _*_}
 use lib.Dec.{eqb}
 use lib.ListN.{getD}
-use Rattle.time.specs.declared.tick.Tick.{Tick}
 use Rattle.time.specs.declared.duration.Duration.{Duration}
 use Rattle.time.specs.Duration.{durationOf}
 use Rattle.time.specs.declared.refusal.Outcome.{Outcome}
 use Rattle.time.specs.declared.refusal.Outcome.the-variants as outcome
 use Rattle.time.specs.Refusal.{numberOf}
-use Rattle.expiring.specs.declared.answers.Answer.{Answer}
-use Rattle.expiring.specs.declared.answers.Answer.the-variants as answer
-use Rattle.expiring.specs.declared.expiring.DefaultDuration.{DefaultDuration}
-use Rattle.expiring.specs.declared.expiring.DefaultDuration.the-variants as asked
-use Rattle.expiring.specs.Model.{Call, insert, insertWithTtl, get, remove, clear, setTtl, purgeExpired, nextDeadline, touch, popLru, contains, peek, ttlStatus, recencyRank, liveLen, expirations, peekLru}
+use Rattle.expiring_model.specs.declared.answers.Answer.{Answer}
+use Rattle.expiring_model.specs.declared.answers.Answer.the-variants as answer
+use Rattle.expiring_model.specs.declared.lifetimes.DefaultDuration.{DefaultDuration}
+use Rattle.expiring_model.specs.declared.lifetimes.DefaultDuration.the-variants as asked
+use Rattle.expiring_model.specs.Model.{Call, insert, insertWithTtl, get, remove, clear, setTtl, purgeExpired, nextDeadline, touch, popLru, contains, peek, ttlStatus, recencyRank, liveLen, expirations, peekLru}
 use Rattle.replay.specs.declared.answer.Answer as replay
 use Rattle.replay.specs.Answers.{words, nothing, number, pair, done, refused}
 use Rattle.replay_expiring.specs.declared.call.Asked.{Asked}

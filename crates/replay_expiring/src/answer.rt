@@ -2,7 +2,7 @@
 ghost use mathlib.Core.Path.{_≡_};
 ghost use Rattle.replay.specs.Answers as answers;
 ghost use Rattle.replay_expiring.specs.Words.{ofAnswer, ofOutcome};
-use expiring::Answer;
+use expiring_model::Answer;
 use time::Outcome;
 
 fn words(code: u64, first: u64, second: u64, discarded: u64) -> replay::Answer

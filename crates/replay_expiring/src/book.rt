@@ -1,13 +1,11 @@
 // A book's opening, and the check.
 ghost use mathlib.Core.Path.{_≡_};
-ghost use Prim.Native.Nat.{_≤_};
-ghost use lib.ListN.{length};
 ghost use Rattle.replay_expiring.specs.Words.{defaultOf};
 ghost use Rattle.replay_expiring.specs.Runs.{Opens, Checked};
 use crate::answer;
 use crate::numbers;
-use expiring::DefaultDuration;
 use expiring::Expiring;
+use expiring_model::DefaultDuration;
 use time::Duration;
 
 // Opens a book in the words, and writes its numbers and an answer. Says 1, or 0 where it did nothing: where there are fewer

@@ -8,10 +8,10 @@ use Rattle.lazy_heap.specs.declared.heap.Opened.{Opened}
 use Rattle.lazy_heap.specs.declared.heap.Stepped.{Stepped}
 use Rattle.lazy_heap.specs.declared.heap.Updated.{Updated}
 use Rattle.lazy_heap.specs.declared.heap.Bested.{Bested}
-use Rattle.lazy_heap.specs.declared.heap.Score.{Score}
+use Rattle.lazy_heap_model.specs.declared.scores.Score.{Score}
 use Rattle.lazy_heap.specs.declared.heap.Number.{Number}
 use Rattle.lazy_heap.specs.declared.heap.Flag.{Flag}
-use Rattle.lazy_heap.specs.Model.{factorOf, len, heapLen, atMost}
+use Rattle.lazy_heap_model.specs.Model.{factorOf, len, heapLen, atMost}
 use Rattle.lazy_heap.specs.Calls.{Opening, Resetting, Updating, Removing, PoppingBest, PeekingBest, RebuildingNow, RebuildingMaybe, RenumberingNow, Clearing, Asking, AskingEmpty, Scoring, Checking}
 use Rattle.replay.specs.declared.answer.Answer.{Answer}
 use Rattle.replay.specs.declared.call.Call.{Call}

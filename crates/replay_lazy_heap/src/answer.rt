@@ -1,10 +1,10 @@
 // The answers of the heap's calls, in words.
 ghost use mathlib.Core.Path.{_≡_};
 ghost use Rattle.replay_lazy_heap.specs.Answers.{ofOutcome, ofScore, ofBest, ofNumber, ofFlag};
-use lazy_heap::Best;
 use lazy_heap::Flag;
 use lazy_heap::Number;
-use lazy_heap::Score;
+use lazy_heap_model::Best;
+use lazy_heap_model::Score;
 use replay::Answer;
 use time::Outcome;
 

@@ -1,5 +1,4 @@
 // A list of calls.
-ghost use mathlib.Core.Path.{_≡_};
 ghost use Prim.Native.Nat.{_*_, _≤_};
 ghost use lib.ListN.{length};
 ghost use Rattle.replay.specs.Runs.{Run, Replayed};

@@ -1,5 +1,4 @@
 -- The answers of the map's calls, in words.
-use Prim.Native.Nat.{ℕ}
 use Rattle.linked_hash_map.specs.declared.map.Record.{Record}
 use Rattle.linked_hash_map.specs.declared.map.Slot.{Slot}
 use Rattle.linked_hash_map.specs.declared.map.Slot.the-variants as slot

@@ -1,11 +1,11 @@
 -- Lines of a block, one after the other: what is read of it and what is written for it grow by a line each.
 use mathlib.Core.Path.{_≡_, refl, sym, ap, _∙_, subst}
-use mathlib.Core.Logic.{_≢_, inl, inr}
+use mathlib.Core.Logic.{_≢_}
 use mathlib.Core.List.{List, [], _∷_, _++_, append-assoc, append-nil}
 use Prim.Native.Nat.{ℕ, zero, suc, _+_, _-_, _<_, _≤_}
 use native.Mathlib.Omega.{arith}
 use native.Mathlib.Numerals.{add-one}
-use borrow.Rule.Slice.PartMut.{midOf, putMid, post-is}
+use borrow.Rule.Slice.PartMut.{midOf, putMid}
 use lib.ListN.{length, getD, take, drop, length-append, length-drop, take-append-drop, List·getD-eq-default}
 use lib.Seq.{sets, sets-eq, slice, take-nil, length-slice, take-suc, getD-drop, getD-take, drop-drop, drop-length, take-take}
 use Rattle.rings.proofs.Counts.{by-lt}
@@ -19,7 +19,7 @@ use Rattle.session.specs.declared.step.Stepped.{Stepped}
 use Rattle.forms.specs.Forms.{Reads}
 use Rattle.forms.specs.Reading.{formIn}
 use Rattle.session.specs.Session.{State, step, printed, stateAfter, Stands, Written, room, Steps}
-use Rattle.session.specs.Lines.{Unbroken, joined, ReadAs, none, more, Safe, Follows, Reached, Runs, FirstNewline, ReadsLine}
+use Rattle.session.specs.Lines.{Unbroken, joined, ReadAs, none, more, Reached, FirstNewline, ReadsLine}
 use Rattle.forms.proofs.Spellings.{parsed}
 
 -- one byte more without a newline

@@ -1,6 +1,5 @@
 -- A line's step follows the model: from no book, by an opening or a refusal; from a book, by a call of it or a refusal.
 use mathlib.Core.Path.{_≡_, refl, sym, ap, _∙_, subst}
-use mathlib.Core.Bool.{true, false, _||_}
 use mathlib.Core.List.{List, []}
 use Prim.Native.Nat.{ℕ, _<_, _≤_}
 use native.Mathlib.Omega.{arith}
@@ -12,20 +11,20 @@ use Rattle.time.specs.declared.tick.Tick.{Tick}
 use Rattle.time.specs.declared.refusal.Outcome.the-variants.{Done, Refused}
 use Rattle.time.specs.declared.refusal.Refusal.{Refusal}
 use Rattle.time.specs.declared.refusal.Refusal.the-variants.{LimitOutOfRange, MalformedLine}
-use Rattle.lazy_heap.specs.Model.{heapLen}
-use Rattle.lazy_heap.specs.Model as heap
+use Rattle.lazy_heap_model.specs.Model.{heapLen}
+use Rattle.lazy_heap_model.specs.Model as heap
 use Rattle.expiration_index.specs.Index.{factor}
-use Rattle.expiring.specs.declared.answers.Answer.{Answer}
-use Rattle.expiring.specs.declared.answers.Answer.the-variants as answer
+use Rattle.expiring_model.specs.declared.answers.Answer.{Answer}
+use Rattle.expiring_model.specs.declared.answers.Answer.the-variants as answer
 use Rattle.expiring.specs.declared.answers.Reply.{Reply}
 use Rattle.expiring.specs.declared.expiring.Expiring.{Expiring}
 use Rattle.expiring.specs.declared.expiring.Opened.{Opened}
-use Rattle.expiring.specs.declared.expiring.DefaultDuration.{DefaultDuration}
-use Rattle.expiring.specs.Model.{Book, fresh}
-use Rattle.expiring.specs.Model as book
+use Rattle.expiring_model.specs.declared.lifetimes.DefaultDuration.{DefaultDuration}
+use Rattle.expiring_model.specs.Model.{Book, fresh}
+use Rattle.expiring_model.specs.Model as book
 use Rattle.expiring.specs.Book.{IsBook, heapOf, modelOf}
-use Rattle.expiring.specs.Calls.{Following, Opening, openingOf, defaultOf}
-use Rattle.session.specs.declared.answer.Counts.{Counts}
+use Rattle.expiring.specs.Calls.{Following, Opening, openingOf}
+use Rattle.expiring_model.specs.Model.{defaultOf}
 use Rattle.forms.specs.declared.form.Call.{Call}
 use Rattle.forms.specs.declared.form.Form.{Form}
 use Rattle.forms.specs.declared.form.Form.the-variants as form
@@ -34,7 +33,7 @@ use Rattle.session.specs.declared.step.Session.the-variants as session
 use Rattle.session.specs.declared.step.Stepped.{Stepped}
 use Rattle.forms.specs.Forms.{Reads}
 use Rattle.session.specs.Answers.{lineOf}
-use Rattle.session.specs.Session.{State, waiting, running, ended, Step, counts, refusedFirst, openedOf, opening, calling, malformed, step, callOf, Stands, unopened, opened, over, Written, Follows, room, Safe, Begins, Refuses, Continues, Tells, Steps}
+use Rattle.session.specs.Session.{State, waiting, running, ended, Step, counts, refusedFirst, opening, calling, malformed, step, callOf, Stands, unopened, opened, over, Written, Follows, room, Safe, Begins, Refuses, Continues, Tells, Steps}
 use Rattle.forms.proofs.Spellings.{reads-once}
 use Rattle.session.proofs.Printing.{line-size}
 

@@ -3,8 +3,8 @@ use mathlib.Core.List.{List, [], _∷_, _++_}
 use Prim.Native.Nat.{ℕ}
 use Prim.Native.String.{String}
 use Rattle.time.specs.Refusal.{numberOf}
-use Rattle.expiring.specs.declared.answers.Answer.{Answer}
-use Rattle.expiring.specs.declared.answers.Answer.the-variants as answer
+use Rattle.expiring_model.specs.declared.answers.Answer.{Answer}
+use Rattle.expiring_model.specs.declared.answers.Answer.the-variants as answer
 use Rattle.text.specs.Text.{bytes, fill}
 use Rattle.text.specs.Writing.{Puts}
 use Rattle.session.specs.declared.answer.Counts.{Counts}

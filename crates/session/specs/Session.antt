@@ -1,6 +1,6 @@
 -- What a session prints, as the plain book has it.
 use mathlib.Core.Path.{_≡_}
-use mathlib.Core.Bool.{Bool, cond, _||_}
+use mathlib.Core.Bool.{cond, _||_}
 use mathlib.Core.List.{List, [], _∷_, _++_}
 use Prim.Native.Nat.{ℕ, _<_, _≤_}
 use lib.Dec.{ltb}
@@ -12,21 +12,22 @@ use Rattle.time.specs.declared.refusal.Outcome.the-variants as outcome
 use Rattle.time.specs.declared.refusal.Refusal.{Refusal}
 use Rattle.time.specs.declared.refusal.Refusal.the-variants.{LimitOutOfRange, MalformedLine}
 use Rattle.time.specs.Duration.{durationOf}
-use Rattle.lazy_heap.specs.Model.{Heap, heapLen}
-use Rattle.lazy_heap.specs.Model as heap
+use Rattle.lazy_heap_model.specs.Model.{Heap, heapLen}
+use Rattle.lazy_heap_model.specs.Model as heap
 use Rattle.expiration_index.specs.declared.answers.Count.{Count}
 use Rattle.expiration_index.specs.declared.answers.Count.the-variants as count
 use Rattle.expiration_index.specs.Index.{factor}
-use Rattle.expiring.specs.declared.answers.Answer.{Answer}
-use Rattle.expiring.specs.declared.answers.Answer.the-variants as answer
+use Rattle.expiring_model.specs.declared.answers.Answer.{Answer}
+use Rattle.expiring_model.specs.declared.answers.Answer.the-variants as answer
 use Rattle.expiring.specs.declared.expiring.Expiring.{Expiring}
-use Rattle.expiring.specs.declared.expiring.DefaultDuration.{DefaultDuration}
-use Rattle.expiring.specs.declared.expiring.DefaultDuration.the-variants as asked
-use Rattle.expiring.specs.Model.{Book, fresh, answerOf, bookAfter}
-use Rattle.expiring.specs.Model as book
-use Rattle.expiring.specs.Discards.{discardedBy, heapBy}
+use Rattle.expiring_model.specs.declared.lifetimes.DefaultDuration.{DefaultDuration}
+use Rattle.expiring_model.specs.declared.lifetimes.DefaultDuration.the-variants as asked
+use Rattle.expiring_model.specs.Model.{Book, fresh, answerOf, bookAfter}
+use Rattle.expiring_model.specs.Model as book
+use Rattle.expiring_model.specs.Discards.{discardedBy, heapBy}
 use Rattle.expiring.specs.Book.{IsBook, heapOf, modelOf}
-use Rattle.expiring.specs.Calls.{openingOf, defaultOf}
+use Rattle.expiring.specs.Calls.{openingOf}
+use Rattle.expiring_model.specs.Model.{defaultOf}
 use Rattle.session.specs.declared.answer.Counts.{Counts}
 use Rattle.forms.specs.declared.form.Call.{Call}
 use Rattle.forms.specs.declared.form.Call.the-variants as call

@@ -3,7 +3,7 @@ ghost use mathlib.Core.List.{_++_};
 ghost use Rattle.text.specs.Text.{bytes, decimal};
 ghost use Rattle.text.specs.Writing.{Puts};
 ghost use Rattle.session.specs.Answers.{Prints, headOf, tailOf};
-use expiring::Answer;
+use expiring_model::Answer;
 
 // Entries discarded by a call, and after it entries in the heap and deadlines held.
 pub struct Counts {

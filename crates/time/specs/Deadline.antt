@@ -1,6 +1,6 @@
 -- Deadlines: document 01, "time.rs" and the plain book's `ttl_status`.
 use mathlib.Core.Bool.{Bool, cond}
-use Prim.Native.Nat.{ℕ, _+_, _-_, _^_, min}
+use Prim.Native.Nat.{_+_, _-_, _^_, min}
 use lib.Dec.{leb}
 use Rattle.time.specs.declared.tick.Tick.{Tick}
 use Rattle.time.specs.declared.tick.Remaining.{Remaining}

@@ -6,7 +6,7 @@ use native.Mathlib.Omega.{arith}
 use lib.ListN.{length}
 use Rattle.expiring.specs.declared.expiring.Expiring.{Expiring}
 use Rattle.expiring.specs.declared.expiring.Opened.{Opened}
-use Rattle.expiring.specs.declared.expiring.DefaultDuration.{DefaultDuration}
+use Rattle.expiring_model.specs.declared.lifetimes.DefaultDuration.{DefaultDuration}
 use Rattle.expiring.specs.Calls.{Opening, openingOf}
 use Rattle.replay_expiring.proofs.Laws.{book-stored, book-past, book-size}
 use borrow.Author.Needs.{needs}

@@ -1,7 +1,7 @@
 -- Each arm is the call of its operation. The last arm's operation is 4, since it is below 5 and none of the others.
 use mathlib.Core.Path.{_≡_}
 use mathlib.Core.Logic.{_≢_}
-use Prim.Native.Nat.{ℕ, _<_, _≤_}
+use Prim.Native.Nat.{ℕ, _<_}
 use native.Mathlib.Omega.{arith}
 use Rattle.replay_expiring.specs.Words.{callOf}
 use borrow.Author.Needs.{needs}

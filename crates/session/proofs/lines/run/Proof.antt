@@ -1,10 +1,8 @@
 -- The lines so far, and the end of the next.
-use mathlib.Core.Path.{sym}
 use mathlib.Core.Logic.{inl, inr}
 use Prim.Native.Nat.{_-_}
 use native.Mathlib.Omega.{arith}
 use lib.ListN.{length}
-use borrow.Author.Needs.{needs}
 use Rattle.session.specs.Lines.{Reached, FirstNewline}
 use Rattle.session.proofs.Blocks.{unbroken-rest, reached-on, reached-none}
 use Rattle.session.proofs.lines.run.Statement.{statement}

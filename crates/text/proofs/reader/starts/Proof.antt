@@ -4,7 +4,7 @@ use Prim.Native.Nat.{_+_, _-_, _≤_}
 use native.Mathlib.Nat.{add-zero}
 use native.Mathlib.Omega.{arith}
 use borrow.Author.Needs.{needs}
-use lib.ListN.{length, length-drop, drop, drop-of-length-le}
+use lib.ListN.{length, length-drop, drop}
 use Rattle.text.specs.Reading.{readText}
 use Rattle.text.proofs.Formats.{starts-past, starts-not, starts-all, text-short, byte-off, byte-on, text-whole}
 use Rattle.text.proofs.reader.starts.Statement.{statement}

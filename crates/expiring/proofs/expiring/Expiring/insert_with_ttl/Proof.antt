@@ -5,7 +5,7 @@ use Rattle.expiring.proofs.Limits.{limits-room}
 use Rattle.expiring.proofs.Lifetimes.{is-duration, no-duration}
 use Rattle.expiring.proofs.Acting.{follow-nanos}
 use Rattle.expiring.proofs.Following.{follow-timed-zero, follow-timed}
-use Rattle.expiring.specs.Model.{badNanos}
+use Rattle.expiring_model.specs.Model.{badNanos}
 use borrow.Author.Needs.{needs}
 use Rattle.expiring.proofs.expiring.Expiring.insert_with_ttl.Statement.{statement}
 use Rattle.expiring.proofs.expiring.Expiring.insert_with_ttl.Tie as tie

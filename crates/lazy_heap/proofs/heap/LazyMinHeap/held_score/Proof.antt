@@ -1,7 +1,7 @@
 use mathlib.Core.Path.{sym, ap, _∙_}
 use borrow.Author.Needs.{needs}
 use Rattle.lazy_heap.proofs.Settling.{slot-nothing, slot-refused}
-use Rattle.lazy_heap.specs.Model.{heldScore}
+use Rattle.lazy_heap_model.specs.Model.{heldScore}
 use Rattle.lazy_heap.proofs.Calling.{room-limits}
 use Rattle.lazy_heap.proofs.heap.LazyMinHeap.held_score.Statement.{statement}
 use Rattle.lazy_heap.proofs.heap.LazyMinHeap.held_score.Tie as tie

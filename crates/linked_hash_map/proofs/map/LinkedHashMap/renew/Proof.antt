@@ -1,7 +1,6 @@
 -- The probe of the new key says whether the record is put or free.
-use mathlib.Core.Path.{_≡_, sym, _∙_, refl}
+use mathlib.Core.Path.{_≡_, sym, _∙_}
 use Prim.Native.Nat.{ℕ}
-use native.Mathlib.Omega.{arith}
 use borrow.Author.Needs.{needs}
 use Rattle.cells.specs.declared.Probe.{Probe}
 use Rattle.cells.specs.declared.Probe.the-variants as probed

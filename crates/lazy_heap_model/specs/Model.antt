@@ -10,10 +10,10 @@ use Rattle.linked_hash_map.specs.declared.map.Record.{Record}
 use Rattle.linked_hash_map.specs.declared.map.Taken.{Taken}
 use Rattle.linked_hash_map.specs.declared.map.Taken.the-variants as taken
 use Rattle.linked_hash_map.specs.Model.{has, lookup, without}
-use Rattle.lazy_heap.specs.declared.heap.Score.{Score}
-use Rattle.lazy_heap.specs.declared.heap.Score.the-variants as score
-use Rattle.lazy_heap.specs.declared.heap.Best.{Best}
-use Rattle.lazy_heap.specs.declared.heap.Best.the-variants as best
+use Rattle.lazy_heap_model.specs.declared.scores.Score.{Score}
+use Rattle.lazy_heap_model.specs.declared.scores.Score.the-variants as score
+use Rattle.lazy_heap_model.specs.declared.scores.Best.{Best}
+use Rattle.lazy_heap_model.specs.declared.scores.Best.the-variants as best
 
 -- A held key is a record of the scores' map: `first` is its score, `second` its sequence number.
 pub record Heap : Type 0 where
@@ -150,6 +150,13 @@ updateDiscards k s h =
 -- "`remove` leaves its entry dead and never rebuilds."
 unfoldable pub removed : ℕ → Heap → Heap
 removed k h = record { limit = h .limit; factor = h .factor; next = h .next; held = without k (h .held); entries = h .entries }
+
+-- the stale entries before the first live one, and the best
+abbrev pub stale : Heap → ℕ
+stale h = staleBefore (h .held) (h .entries)
+
+abbrev pub bestOfHeap : Heap → Best
+bestOfHeap h = bestIn (fromLive (h .held) (h .entries))
 
 -- "`peek_best` throws dead entries away until the least live one"
 unfoldable pub peeked : Heap → Heap

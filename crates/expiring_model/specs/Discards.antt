@@ -8,9 +8,8 @@ use Rattle.time.specs.declared.refusal.Outcome.{Outcome}
 use Rattle.time.specs.declared.refusal.Outcome.the-variants as outcome
 use Rattle.binary_heap.specs.declared.entries.Entry.{Entry}
 use Rattle.linked_hash_map.specs.declared.map.Record.{Record}
-use Rattle.lazy_heap.specs.Model.{Heap, live, surplus, updated, updateDiscards, removed, peeked, cleared}
-use Rattle.lazy_heap.specs.Calls.{stale}
-use Rattle.expiring.specs.Model.{Book, Call, Change, keep, set, drop, dropExpired, dropAll, look, changeOf, refusalOf}
+use Rattle.lazy_heap_model.specs.Model.{Heap, live, surplus, updated, updateDiscards, removed, peeked, cleared, stale}
+use Rattle.expiring_model.specs.Model.{Book, Call, Change, keep, set, drop, dropExpired, dropAll, look, changeOf, refusalOf}
 
 -- "the entries before the first live one with deadline > now (all if there is none)", and what is left without them
 unfoldable pub expiredBefore : Tick → List Record → List Entry → ℕ

@@ -4,12 +4,11 @@ use mathlib.Core.List.{List, [], _∷_}
 use Prim.Native.Nat.{ℕ}
 use Rattle.time.specs.declared.refusal.Refusal.the-variants.{KeyLimitReached}
 use Rattle.linked_hash_map.specs.Model.{lookup}
-use Rattle.lazy_heap.specs.declared.heap.Score.{Score}
-use Rattle.lazy_heap.specs.declared.heap.Score.the-variants as score
-use Rattle.lazy_heap.specs.declared.heap.Best.{Best}
-use Rattle.lazy_heap.specs.declared.heap.Best.the-variants as best
-use Rattle.lazy_heap.specs.Model.{Heap, heapLen, surplus, heldScore, opened, isFull, updated, updateDiscards, removed, peeked, popped, rebuilt, cleared}
-use Rattle.lazy_heap.specs.Calls.{stale, bestOfHeap}
+use Rattle.lazy_heap_model.specs.declared.scores.Score.{Score}
+use Rattle.lazy_heap_model.specs.declared.scores.Score.the-variants as score
+use Rattle.lazy_heap_model.specs.declared.scores.Best.{Best}
+use Rattle.lazy_heap_model.specs.declared.scores.Best.the-variants as best
+use Rattle.lazy_heap_model.specs.Model.{Heap, heapLen, surplus, heldScore, opened, isFull, updated, updateDiscards, removed, peeked, popped, rebuilt, cleared, stale, bestOfHeap}
 
 pub data Call : Type 0 where
   update : ℕ → ℕ → Call
@@ -127,5 +126,21 @@ samples =
       start = 0;
       calls = update 7 5 ∷ remove 7 ∷ update 8 6 ∷ update 7 5 ∷ rebuild ∷ clear ∷ update 7 5 ∷ popBest ∷ [];
       told = t none 0 1 ∷ t (was 5) 0 1 ∷ t none 0 2 ∷ t none 0 3 ∷ t done 1 2 ∷ t done 0 0 ∷ t none 0 1 ∷ t (due 7 5) 0 0 ∷ [];
+    }
+    -- `clear` keeps the next number, so that the third setting renumbers, and discards the entry of 7
+    ∷ record {
+      limit = 4;
+      factor = 8;
+      start = 18446744073709551613;
+      calls = update 7 5 ∷ clear ∷ update 7 5 ∷ remove 7 ∷ update 8 6 ∷ popBest ∷ scoreOf 8 ∷ [];
+      told = t none 0 1 ∷ t done 0 0 ∷ t none 0 1 ∷ t (was 5) 0 1 ∷ t none 1 1 ∷ t (due 8 6) 0 0 ∷ t none 0 0 ∷ [];
+    }
+    -- renumbering keeps the order of setting, before all that is set later
+    ∷ record {
+      limit = 4;
+      factor = 2;
+      start = 18446744073709551613;
+      calls = update 7 5 ∷ update 8 6 ∷ update 9 5 ∷ popBest ∷ popBest ∷ popBest ∷ [];
+      told = t none 0 1 ∷ t none 0 2 ∷ t none 0 3 ∷ t (due 7 5) 0 2 ∷ t (due 9 5) 0 1 ∷ t (due 8 6) 0 0 ∷ [];
     }
     ∷ []

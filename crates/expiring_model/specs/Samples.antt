@@ -1,20 +1,20 @@
--- Samples B1 to B12 of document 01: calls on a fresh book, and what the definitions are to give.
+-- Samples B1 to B12 of document 01, and two more: calls on a fresh book, and what the definitions are to give.
 use mathlib.Core.List.{List, [], _∷_}
 use Prim.Native.Nat.{ℕ, _+_, _*_}
 use lib.ListN.{length}
 use Rattle.time.specs.declared.tick.Tick.{Tick}
 use Rattle.time.specs.declared.duration.Duration.{Duration}
 use Rattle.time.specs.declared.refusal.Refusal.the-variants.{KeyLimitReached}
-use Rattle.lazy_heap.specs.Model.{Heap, heapLen, opened}
+use Rattle.lazy_heap_model.specs.Model.{Heap, heapLen, opened}
 use Rattle.expiration_index.specs.Index.{factor}
-use Rattle.expiring.specs.declared.answers.Answer.{Answer}
-use Rattle.expiring.specs.declared.answers.Answer.the-variants.{Nothing, Value, Yes, No, Missing, Immortal, Expired, Live, Count, Due, Rank, Refused}
-use Rattle.expiring.specs.declared.expiring.DefaultDuration.{DefaultDuration}
-use Rattle.expiring.specs.declared.expiring.DefaultDuration.the-variants as default
-use Rattle.expiring.specs.Model.{Book, Call, contains, get, insert, remove, insertWithTtl, ttlStatus, setTtl, purgeExpired, liveLen, expirations, nextDeadline, recencyRank, fresh, answerOf, bookAfter}
-use Rattle.expiring.specs.Discards.{discardedBy, heapBy}
-use Rattle.expiring.specs.Calls.{defaultOf}
-use Rattle.expiring.specs.Runs.{Calls}
+use Rattle.expiring_model.specs.declared.answers.Answer.{Answer}
+use Rattle.expiring_model.specs.declared.answers.Answer.the-variants.{Nothing, Value, Yes, No, Missing, Immortal, Expired, Live, Count, Due, Item, Rank, Done, Refused}
+use Rattle.expiring_model.specs.declared.lifetimes.DefaultDuration.{DefaultDuration}
+use Rattle.expiring_model.specs.declared.lifetimes.DefaultDuration.the-variants as default
+use Rattle.expiring_model.specs.Model.{Book, Call, contains, peek, get, insert, remove, clear, insertWithTtl, ttlStatus, setTtl, purgeExpired, liveLen, expirations, nextDeadline, touch, recencyRank, popLru, peekLru, fresh, answerOf, bookAfter}
+use Rattle.expiring_model.specs.Discards.{discardedBy, heapBy}
+use Rattle.expiring_model.specs.Model.{defaultOf}
+use Rattle.expiring_model.specs.Lists.{Calls}
 
 -- an answer, how many entries were discarded, and how many are in the heap after it
 pub record Answered : Type 0 where
@@ -161,4 +161,14 @@ samples =
     (at 0 (insert 1 10) ∷ at 0 (insert 2 20) ∷ at 0 (get 1) ∷ at 0 (insert 3 30) ∷ at 0 (contains 2) ∷ at 0 (contains 1) ∷ at 0 (recencyRank 3) ∷ at 0 (recencyRank 1) ∷ [])
     (a Nothing 0 0 ∷ a Nothing 0 0 ∷ a (Value 10) 0 0 ∷ a Nothing 0 0 ∷ a No 0 0 ∷ a Yes 0 0 ∷ a (Rank 0) 0 0 ∷ a (Rank 1) 0 0 ∷ [])
     (sum 0 0 0 0 0)
+    -- beside those: the list's own calls, `peek` and `clear`
+    ∷ sample
+    (at 0 (insert 1 10) ∷ at 0 (timed 2 (ms 5)) ∷ at 0 (peek 1) ∷ at 0 peekLru ∷ at 0 (touch 1) ∷ at 0 peekLru ∷ at 0 popLru ∷ at 0 nextDeadline ∷ at 0 clear ∷ at 0 (contains 1) ∷ at 0 nextDeadline ∷ [])
+    (a Nothing 0 0 ∷ a Nothing 0 1 ∷ a (Value 10) 0 1 ∷ a (Item 1 10) 0 1 ∷ a Yes 0 1 ∷ a (Item 2 20) 0 1 ∷ a (Item 2 20) 0 1 ∷ a (due 2 5) 0 1 ∷ a Done 0 0 ∷ a No 0 0 ∷ a Nothing 0 0 ∷ [])
+    (sum 0 0 0 0 0)
+    -- a stale entry behind the next due stays
+    ∷ sample
+    (at 0 (timed 7 (ms 5)) ∷ at 0 (timed 8 (ms 1)) ∷ at 0 (timed 7 (ms 6)) ∷ at 0 nextDeadline ∷ [])
+    (a Nothing 0 1 ∷ a Nothing 0 2 ∷ a (Value 70) 0 3 ∷ a (due 8 1) 0 3 ∷ [])
+    (sum 0 3 2 1 0)
     ∷ []

@@ -10,10 +10,12 @@ use Rattle.time.specs.declared.tick.Tick.{Tick}
 use Rattle.time.specs.declared.tick.Remaining.{Remaining}
 use Rattle.time.specs.declared.tick.Remaining.the-variants as remaining
 use Rattle.time.specs.declared.duration.Duration.{Duration}
+use Rattle.time.specs.declared.duration.Ticked.{Ticked}
+use Rattle.time.specs.declared.duration.Ticked.the-variants as ticked
 use Rattle.time.specs.declared.refusal.Outcome.{Outcome}
 use Rattle.time.specs.declared.refusal.Outcome.the-variants as outcome
 use Rattle.time.specs.declared.refusal.Refusal.the-variants.{InvalidNanos, KeyLimitReached}
-use Rattle.time.specs.Duration.{isZero, isDuration, millisOf}
+use Rattle.time.specs.Duration.{isZero, isDuration, millisOf, ticksOf}
 use Rattle.time.specs.Deadline.{deadlineFrom, isExpiredAt, remainingAt}
 use Rattle.fast_lru.specs.declared.answers.Rank.{Rank}
 use Rattle.fast_lru.specs.declared.answers.Rank.the-variants as rank
@@ -21,10 +23,12 @@ use Rattle.fast_lru.specs.Model.{Item, Items, toFront, inserted, last, popped, 
 use Rattle.fast_lru.specs.Model as list
 use Rattle.expiration_index.specs.Model.{Pair, Pairs, next, isFull, expiredCount, unexpired}
 use Rattle.expiration_index.specs.Model as pairs
-use Rattle.expiring.specs.declared.answers.Answer.{Answer}
-use Rattle.expiring.specs.declared.answers.Answer.the-variants as answer
-use Rattle.expiring.specs.declared.expiring.DefaultTtl.{DefaultTtl}
-use Rattle.expiring.specs.declared.expiring.DefaultTtl.the-variants as default
+use Rattle.expiring_model.specs.declared.answers.Answer.{Answer}
+use Rattle.expiring_model.specs.declared.answers.Answer.the-variants as answer
+use Rattle.expiring_model.specs.declared.lifetimes.DefaultTtl.{DefaultTtl}
+use Rattle.expiring_model.specs.declared.lifetimes.DefaultTtl.the-variants as default
+use Rattle.expiring_model.specs.declared.lifetimes.DefaultDuration.{DefaultDuration}
+use Rattle.expiring_model.specs.declared.lifetimes.DefaultDuration.the-variants as asked
 
 pub record Book : Type 0 where
   pub capacity : ℕ
@@ -39,6 +43,15 @@ pub record Book : Type 0 where
   -- pairs that gave way to a new one of their key, and pairs that were dropped
   pub replaced : ℕ
   pub removed : ℕ
+
+-- the default lifetime in ticks
+abbrev pub ofTicks : Ticked → DefaultTtl
+ofTicks (ticked.Ticks l) = default.Of l
+ofTicks (ticked.Refused why) = default.Nothing
+
+abbrev pub defaultOf : DefaultDuration → DefaultTtl
+defaultOf (asked.Of d) = ofTicks (ticksOf d)
+defaultOf asked.Nothing = default.Nothing
 
 -- "It starts with the opening's C, D and default, both lists empty, all counts 0."
 unfoldable pub fresh : ℕ → ℕ → DefaultTtl → Book

@@ -1,0 +1,4 @@
+pub mod Model
+pub mod Discards
+pub mod Lists
+pub mod Samples
