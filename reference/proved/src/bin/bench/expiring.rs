@@ -1,20 +1,24 @@
-//! The book beside cachekit's `Expiring<FastLru>`. It has room for as many deadlines as values, and
-//! every key that it is filled with has one.
+//! The book beside cachekit's `Expiring<FastLru>`: handed lists of calls, and called once for each
+//! call of them, through the library for other programs. It has room for as many deadlines as
+//! values, and every key that it is filled with has one.
 
-use crate::timing::{
-    CALLS_IN_LIST, Contestant, LISTS, Panel, Point, Words, Workload, medians, pick, random_keys,
-};
+use crate::table::{Panel, Point};
+use crate::timing::{CALLS_IN_LIST, Contestant, LISTS, SEED, Words, Workload, pick, random_keys};
 use cachekit::policy::expiring as rust;
 use cachekit::policy::fast_lru::FastLru;
 use cachekit::time::MockClock;
 use cachekit::traits::{Cache, ExpiringCache, TtlStatus};
+use hailtansy::Book;
 use proved::expiring::{Call, Expiring, Opening, Ttl};
 use samples::splitmix64::SplitMix64;
 use std::time::Duration;
 
-type Book = rust::Expiring<FastLru<u64, u64>, u64, u64, MockClock>;
+type RustBook = rust::Expiring<FastLru<u64, u64>, u64, u64, MockClock>;
 
 type CallWords = [u64; 6];
+
+/// In the order of the costs.
+pub const NAMES: [&str; 3] = ["proved, by lists", "Expiring", "proved, single calls"];
 
 impl Contestant<6> for Expiring {
     fn run(&mut self, calls: &[CallWords], answers: &mut Vec<Words>) {
@@ -23,17 +27,65 @@ impl Contestant<6> for Expiring {
     }
 }
 
-/// It counts no discarded entries.
+fn found(value: Option<u64>) -> Words {
+    match value {
+        Some(value) => [3, value, 0, 0],
+        None => [2, 0, 0, 0],
+    }
+}
+
+fn pair(pair: Option<(u64, u64)>) -> Words {
+    match pair {
+        Some((first, second)) => [4, first, second, 0],
+        None => [2, 0, 0, 0],
+    }
+}
+
+/// Call by call, and like the Rust without the counts of discarded entries.
 impl Contestant<6> for Book {
     fn run(&mut self, calls: &[CallWords], answers: &mut Vec<Words>) {
-        let found = |value: Option<u64>| match value {
-            Some(value) => [3, value, 0, 0],
-            None => [2, 0, 0, 0],
-        };
-        let pair = |pair: Option<(u64, u64)>| match pair {
-            Some((first, second)) => [4, first, second, 0],
-            None => [2, 0, 0, 0],
-        };
+        const ROOM: &str = "there is room for a deadline of each key";
+        answers.clear();
+        for &[operation, now, key, value, secs, nanos] in calls {
+            let ttl = Duration::new(secs, nanos as u32);
+            answers.push(match operation {
+                0 => found(self.insert(now, key, value).expect(ROOM)),
+                1 => found(self.insert_with_ttl(now, key, value, ttl).expect(ROOM)),
+                2 => found(self.get(now, key)),
+                3 => found(self.remove(now, key)),
+                4 => {
+                    self.clear(now);
+                    [9, 0, 0, 0]
+                }
+                5 => [u64::from(self.set_ttl(now, key, ttl).expect(ROOM)), 0, 0, 0],
+                6 => [3, self.purge_expired(now), 0, 0],
+                7 => pair(self.next_deadline(now)),
+                8 => [u64::from(self.touch(now, key)), 0, 0, 0],
+                9 => pair(self.pop_lru(now)),
+                10 => [u64::from(self.contains(now, key)), 0, 0, 0],
+                11 => found(self.peek(now, key)),
+                12 => match self.ttl_status(now, key) {
+                    hailtansy::TtlStatus::Missing => [12, 0, 0, 0],
+                    hailtansy::TtlStatus::Immortal => [13, 0, 0, 0],
+                    hailtansy::TtlStatus::Expired => [14, 0, 0, 0],
+                    hailtansy::TtlStatus::Live {
+                        remaining,
+                        deadline,
+                    } => [15, remaining.as_millis() as u64, deadline, 0],
+                },
+                13 => found(self.recency_rank(now, key)),
+                14 => [3, self.live_len(now), 0, 0],
+                15 => [3, self.expirations(now), 0, 0],
+                16 => pair(self.peek_lru(now)),
+                _ => panic!("there is no operation {operation}"),
+            });
+        }
+    }
+}
+
+/// It counts no discarded entries.
+impl Contestant<6> for RustBook {
+    fn run(&mut self, calls: &[CallWords], answers: &mut Vec<Words>) {
         answers.clear();
         for &[operation, tick, key, value, secs, nanos] in calls {
             self.clock().set(tick);
@@ -194,7 +246,7 @@ const ROWS: [Row; 18] = [
     },
 ];
 
-/// Calls that walk the whole book, of which a list has fewer.
+/// Calls that walk the whole book, of which a list has [`WALKS_IN_LIST`].
 const WALKS: [Row; 2] = [
     Row {
         name: "live_len",
@@ -206,16 +258,12 @@ const WALKS: [Row; 2] = [
     },
 ];
 
-fn point(random: &mut SplitMix64, row: &Row, size: usize, calls: usize) -> Point {
-    let keys = random_keys(random, size);
-    let opening = Opening {
-        capacity: size as u64,
-        limit: size as u64,
-        ..Opening::default()
-    };
-    let mut proved = Expiring::new(opening);
-    let mut rust = Book::with_default_ttl(FastLru::new(size), MockClock::new(), None);
+const WALKS_IN_LIST: usize = 32;
 
+/// The same for a row and a size in every run of this program, so that what is timed is counted.
+fn workload(row: &Row, size: usize, calls: usize) -> Workload<6> {
+    let mut random = SplitMix64(SEED);
+    let keys = random_keys(&mut random, size);
     let mut before = vec![Call::Clear.words(0)];
     before.extend(keys.iter().map(|&key| {
         let lifetime = Ttl::from_millis(10_000_000 + random.below(1_000_000));
@@ -226,35 +274,49 @@ fn point(random: &mut SplitMix64, row: &Row, size: usize, calls: usize) -> Point
         (0..calls)
             .map(|_| {
                 let turn = turns.next().expect("turns do not end");
-                let (tick, call) = (row.call)(random, &keys, turn);
+                let (tick, call) = (row.call)(&mut random, &keys, turn);
                 call.words(tick)
             })
             .collect()
     };
-    let work = Workload {
+    Workload {
         before,
         lists: (0..LISTS).map(|_| list()).collect(),
-    };
-    let medians = medians::<6>(&mut [&mut proved, &mut rust], &work);
-    assert!(proved.check());
-    assert_eq!(proved.len(), rust.len() as u64);
-    assert_eq!(proved.expirations(), rust.expirations());
-    Point {
-        size,
-        proved: medians[0],
-        rust: medians[1],
     }
 }
 
-pub fn measure(random: &mut SplitMix64) -> Vec<Panel> {
+/// What a call costs each contestant.
+pub type Meter<'a> = &'a mut dyn FnMut(&mut [&mut dyn Contestant<6>], &Workload<6>) -> Vec<f64>;
+
+fn point(row: &Row, size: usize, calls: usize, meter: Meter) -> Point {
+    let (capacity, limit) = (size as u64, size as u64);
+    let mut proved = Expiring::new(Opening {
+        capacity,
+        limit,
+        ..Opening::default()
+    });
+    let mut rust = RustBook::with_default_ttl(FastLru::new(size), MockClock::new(), None);
+    let mut single = Book::open(hailtansy::Opening::new(capacity, limit)).expect("limits in range");
+
+    let work = workload(row, size, calls);
+    let costs = meter(&mut [&mut proved, &mut rust, &mut single], &work);
+    assert!(proved.check() && single.check());
+    assert_eq!([proved.len(), single.len()], [rust.len() as u64; 2]);
+    let expirations = [proved.expirations(), single.expirations(0)];
+    assert_eq!(expirations, [rust.expirations(); 2]);
+    Point { size, costs }
+}
+
+pub fn measure(sizes: &[usize], meter: Meter) -> Vec<Panel> {
     let mut panel = |row: &Row, calls| Panel {
-        layer: "expiring",
+        layer: None,
         name: row.name,
-        points: [16, 256, 4096]
-            .map(|size| point(random, row, size, calls))
-            .to_vec(),
+        points: sizes
+            .iter()
+            .map(|&size| point(row, size, calls, meter))
+            .collect(),
     };
     let mut panels: Vec<Panel> = ROWS.iter().map(|row| panel(row, CALLS_IN_LIST)).collect();
-    panels.extend(WALKS.iter().map(|row| panel(row, 32)));
+    panels.extend(WALKS.iter().map(|row| panel(row, WALKS_IN_LIST)));
     panels
 }

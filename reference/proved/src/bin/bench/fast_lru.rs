@@ -1,8 +1,8 @@
 //! The recency list beside cachekit's `FastLru`.
 
+use crate::table::{Panel, Point};
 use crate::timing::{
-    CALLS_IN_LIST, Contestant, LISTS, Panel, Point, Words, Workload, lists_of, medians, pick,
-    random_keys, sizes,
+    CALLS_IN_LIST, Contestant, LISTS, Words, Workload, lists_of, medians, pick, random_keys, sizes,
 };
 use cachekit::policy::fast_lru as rust;
 use proved::fast_lru::{Call, FastLru};
@@ -101,19 +101,15 @@ fn point(random: &mut SplitMix64, row: &Row, size: usize) -> Point {
     let mut before = vec![Call::Clear];
     before.extend(keys.iter().map(|&key| Call::Insert(key, !key)));
     let work = Workload::new(before, (row.lists)(random, &keys));
-    let medians = medians(&mut [&mut proved, &mut rust], &work);
+    let costs = medians(&mut [&mut proved, &mut rust], &work);
     assert_eq!(proved.call(Call::Check), Answer::Yes);
     assert_eq!(proved.call(Call::Len), Answer::Number(rust.len() as u64));
-    Point {
-        size,
-        proved: medians[0],
-        rust: medians[1],
-    }
+    Point { size, costs }
 }
 
 pub fn measure(random: &mut SplitMix64) -> Vec<Panel> {
     let mut panel = |row: &Row| Panel {
-        layer: "fast_lru",
+        layer: Some("fast_lru"),
         name: row.name,
         points: sizes().map(|size| point(random, row, size)).collect(),
     };

@@ -133,7 +133,7 @@ fn measure(random: &mut SplitMix64, row: &Row, records: usize) -> Vec<f64> {
 }
 
 pub fn print(random: &mut SplitMix64) {
-    println!("| linked_hash_map | keys | proved | FastLru | ratio | HashMap | ratio |");
+    println!("| call | keys | proved map | FastLru | ratio | HashMap | ratio |");
     println!("|---|---:|---:|---:|---:|---:|---:|");
     for row in &ROWS {
         for records in [16, 256, 4096] {

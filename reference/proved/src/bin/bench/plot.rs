@@ -1,6 +1,6 @@
 //! The cost of a call against the size, a panel for each kind of call.
 
-use crate::timing::{Panel, Point};
+use crate::table::{Panel, Point};
 use std::fmt::Write;
 
 const COLUMNS: usize = 4;
@@ -8,10 +8,11 @@ const PANEL: (f64, f64) = (250.0, 190.0);
 /// The lines' part of a panel: left, top, width, height.
 const AREA: (f64, f64, f64, f64) = (42.0, 36.0, 190.0, 116.0);
 
-const PROVED: &str = "#1f5fa8";
-const RUST: &str = "#c2571a";
+/// Of the costs of a point.
+const COLOURS: [&str; 3] = ["#1f5fa8", "#c2571a", "#3a9a6a"];
 
-pub fn svg(panels: &[Panel]) -> String {
+/// The names are those of the costs of every point.
+pub fn svg(names: &[&str], panels: &[Panel]) -> String {
     let rows = (panels.len() + 1).div_ceil(COLUMNS);
     let (width, height) = (PANEL.0 * COLUMNS as f64, PANEL.1 * rows as f64);
     let mut svg = format!(
@@ -26,7 +27,7 @@ pub fn svg(panels: &[Panel]) -> String {
         draw(&mut svg, panel);
     }
     open(&mut svg, panels.len());
-    legend(&mut svg);
+    legend(&mut svg, names);
     svg + "</svg>\n"
 }
 
@@ -54,7 +55,7 @@ fn draw(svg: &mut String, panel: &Panel) {
     let most = panel
         .points
         .iter()
-        .map(|point| point.proved.max(point.rust))
+        .flat_map(|point| point.costs.iter().copied())
         .fold(0.0, f64::max);
     let step = tick(most);
     let top_value = (most / step).ceil() * step;
@@ -68,7 +69,10 @@ fn draw(svg: &mut String, panel: &Panel) {
         left + width * (powers(size) - powers(first)) / (powers(last) - powers(first))
     };
 
-    let title = format!("{}: {}", panel.layer, panel.name);
+    let title = match panel.layer {
+        Some(layer) => format!("{layer}: {}", panel.name),
+        None => panel.name.to_string(),
+    };
     text(svg, left, top - 14.0, "font-weight=\"bold\"", &title);
     let mut nanos = 0.0;
     while nanos <= top_value {
@@ -93,15 +97,16 @@ fn draw(svg: &mut String, panel: &Panel) {
         let middle = "text-anchor=\"middle\" fill=\"#555\"";
         text(svg, x(size), top + height + 15.0, middle, &size.to_string());
     }
-    curve(svg, panel, RUST, |p| (x(p.size), y(p.rust)));
-    curve(svg, panel, PROVED, |p| (x(p.size), y(p.proved)));
+    for (at, colour) in COLOURS[..panel.points[0].costs.len()].iter().enumerate() {
+        curve(svg, panel, colour, |p| (x(p.size), y(p.costs[at])));
+    }
     line(svg, "</g>");
 }
 
-fn curve(svg: &mut String, panel: &Panel, colour: &str, place: impl Fn(Point) -> (f64, f64)) {
+fn curve(svg: &mut String, panel: &Panel, colour: &str, place: impl Fn(&Point) -> (f64, f64)) {
     let mut points = String::new();
     let mut dots = String::new();
-    for &point in &panel.points {
+    for point in &panel.points {
         let (x, y) = place(point);
         let _ = write!(points, "{x:.1},{y:.1} ");
         let _ = write!(
@@ -132,12 +137,9 @@ fn tick(most: f64) -> f64 {
     }
 }
 
-fn legend(svg: &mut String) {
+fn legend(svg: &mut String, names: &[&str]) {
     let (left, top, ..) = AREA;
-    for (at, (colour, name)) in [(PROVED, "proved"), (RUST, "the Rust")]
-        .into_iter()
-        .enumerate()
-    {
+    for (at, (colour, name)) in COLOURS.iter().zip(names).enumerate() {
         let y = top + 18.0 * at as f64;
         line(
             svg,
@@ -148,7 +150,8 @@ fn legend(svg: &mut String) {
         );
         text(svg, left + 32.0, y + 4.0, "", name);
     }
-    text(svg, left, top + 54.0, "", "up: nanoseconds of a call");
-    text(svg, left, top + 70.0, "", "across: keys held");
+    let below = top + 18.0 * names.len() as f64 + 18.0;
+    text(svg, left, below, "", "up: nanoseconds of a call");
+    text(svg, left, below + 16.0, "", "across: keys held");
     line(svg, "</g>");
 }

@@ -1,6 +1,6 @@
-//! How all layers are timed. Contestants take the same lists of calls, of N words each, and write an
-//! answer of four words for each. A round times every contestant once, one after the other, and a figure is the
-//! median over the rounds.
+//! How all layers are timed. Contestants take the same lists of calls, of N words each, and write
+//! an answer of four words for each. A round times every contestant once, one after the other, and a
+//! figure is the median over the rounds.
 
 use proved::replay::{Call, State};
 use samples::splitmix64::SplitMix64;
@@ -11,6 +11,8 @@ const ROUNDS: usize = 101;
 const WARM_UP_ROUNDS: usize = 3;
 pub const CALLS_IN_LIST: usize = 4096;
 pub const LISTS: usize = 8;
+
+pub const SEED: u64 = 0xea11b66d22;
 
 /// Of a plot: 16 to 4,096.
 pub fn sizes() -> impl Iterator<Item = usize> {
@@ -51,6 +53,13 @@ impl Workload {
     }
 }
 
+impl<const N: usize> Workload<N> {
+    /// How many calls are timed.
+    pub fn calls(&self) -> usize {
+        self.lists.iter().map(Vec::len).sum()
+    }
+}
+
 /// As many lists of calls as a round has.
 pub fn lists_of<C>(mut call: impl FnMut() -> C) -> Vec<Vec<C>> {
     let mut list = || (0..CALLS_IN_LIST).map(|_| call()).collect();
@@ -65,6 +74,19 @@ pub fn pick(random: &mut SplitMix64, keys: &[u64]) -> u64 {
     keys[random.below(keys.len() as u64) as usize]
 }
 
+/// What is timed or counted. Callgrind knows it by its name.
+#[inline(never)]
+pub fn run_lists<const N: usize>(
+    contestant: &mut dyn Contestant<N>,
+    work: &Workload<N>,
+    answers: &mut Vec<Words>,
+) {
+    for list in &work.lists {
+        contestant.run(black_box(list), answers);
+        black_box(&answers);
+    }
+}
+
 /// The nanoseconds of a call.
 fn time<const N: usize>(
     contestant: &mut dyn Contestant<N>,
@@ -73,12 +95,8 @@ fn time<const N: usize>(
 ) -> f64 {
     contestant.run(&work.before, answers);
     let start = Instant::now();
-    for list in &work.lists {
-        contestant.run(black_box(list), answers);
-        black_box(&answers);
-    }
-    let calls = work.lists.iter().map(Vec::len).sum::<usize>();
-    start.elapsed().as_nanos() as f64 / calls as f64
+    run_lists(contestant, work, answers);
+    start.elapsed().as_nanos() as f64 / work.calls() as f64
 }
 
 fn median(mut times: Vec<f64>) -> f64 {
@@ -102,36 +120,4 @@ pub fn medians<const N: usize>(
         }
     }
     times.into_iter().map(median).collect()
-}
-
-/// The nanoseconds of a call at each size, beside the Rust's.
-pub struct Panel {
-    pub layer: &'static str,
-    pub name: &'static str,
-    pub points: Vec<Point>,
-}
-
-#[derive(Clone, Copy)]
-pub struct Point {
-    pub size: usize,
-    pub proved: f64,
-    pub rust: f64,
-}
-
-pub fn print(layer: &str, rust: &str, sizes: &[usize], panels: &[Panel]) {
-    println!("| {layer} | keys | proved | {rust} | ratio |");
-    println!("|---|---:|---:|---:|---:|");
-    for panel in panels {
-        for point in &panel.points {
-            let Point { size, proved, rust } = *point;
-            if sizes.contains(&size) {
-                println!(
-                    "| {} | {size} | {proved:.1} ns | {rust:.1} ns | {:.2} |",
-                    panel.name,
-                    proved / rust
-                );
-            }
-        }
-    }
-    println!();
 }
