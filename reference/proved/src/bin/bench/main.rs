@@ -1,8 +1,10 @@
-//! Times the proved layers beside the Rust that they are ports of. Prints a table for each layer,
-//! and draws the cost of a call against the size into docs/benchmarks.svg and docs/book.svg.
+//! Times the proved layers beside the Rust that they are ports of, and counts the instructions of the
+//! book's calls. Prints tables, and draws the cost of a call against the size into
+//! docs/benchmarks.svg and docs/book.svg.
 //!
 //! Arguments choose some of the [`PARTS`]; without any it does all of them.
 
+mod counts;
 mod expiration_index;
 mod expiring;
 mod fast_lru;
@@ -19,10 +21,14 @@ use std::{env, fs, io};
 use table::Panel;
 use timing::SEED;
 
-const PARTS: [&str; 5] = ["map", "list", "heap", "index", "book"];
+const PARTS: [&str; 6] = ["map", "list", "heap", "index", "book", "instructions"];
 
 fn main() -> io::Result<ExitCode> {
     let chosen: Vec<String> = env::args().skip(1).collect();
+    if chosen == [counts::ARGUMENT] {
+        counts::run_rows();
+        return Ok(ExitCode::SUCCESS);
+    }
     if let Some(other) = chosen.iter().find(|part| !PARTS.contains(&part.as_str())) {
         eprintln!("there is no {other}, only {}", PARTS.join(", "));
         return Ok(ExitCode::FAILURE);
@@ -36,6 +42,9 @@ fn main() -> io::Result<ExitCode> {
     structures(does)?;
     if does("book") {
         book()?;
+    }
+    if does("instructions") {
+        instructions()?;
     }
     Ok(ExitCode::SUCCESS)
 }
@@ -75,6 +84,18 @@ fn book() -> io::Result<()> {
     println!("## The book\n");
     table::print(&expiring::NAMES, &[16, 256, 4096], &panels, table::nanos);
     draw("book.svg", &expiring::NAMES, &panels)
+}
+
+fn instructions() -> io::Result<()> {
+    println!("## Instructions\n");
+    match counts::measure()? {
+        Some(panels) => {
+            let show = table::instructions;
+            table::print(&expiring::NAMES, &counts::SIZES, &panels, show);
+        }
+        None => println!("Not counted: valgrind, Debian's package of that name, is missing.\n"),
+    }
+    Ok(())
 }
 
 fn draw(name: &str, names: &[&str], panels: &[Panel]) -> io::Result<()> {

@@ -18,6 +18,10 @@ pub fn nanos(cost: f64) -> String {
     format!("{cost:.1} ns")
 }
 
+pub fn instructions(cost: f64) -> String {
+    format!("{cost:.0}")
+}
+
 /// The names are those of the costs. A ratio is to the second of these.
 pub fn print(names: &[&str], sizes: &[usize], panels: &[Panel], show: fn(f64) -> String) {
     let mut header = vec!["call", "keys", names[0], names[1], "ratio"];
