@@ -1,4 +1,4 @@
-//! The exported functions of the `replay_` crates, and the only unsafe code of this package.
+//! The exported functions of the `replay_` crates, and the only unsafe code of this library.
 
 macro_rules! replays {
     ($($safe:ident is $exported:ident)*) => {

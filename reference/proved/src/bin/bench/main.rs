@@ -1,6 +1,6 @@
-//! Times the proved layers beside the Rust that they are ports of, and counts the instructions of the
-//! book's calls. Prints tables, and draws the cost of a call against the size into
-//! docs/benchmarks.svg and docs/book.svg.
+//! Times the proved layers beside the Rust that they are ports of, counts the instructions of the
+//! book's calls and the bytes of a book. Prints tables, and draws the cost of a call against the
+//! size into docs/benchmarks.svg and docs/book.svg.
 //!
 //! Arguments choose some of the [`PARTS`]; without any it does all of them.
 
@@ -16,12 +16,20 @@ mod timing;
 
 use samples::splitmix64::SplitMix64;
 use std::path::Path;
-use std::process::ExitCode;
+use std::process::{Command, ExitCode};
 use std::{env, fs, io};
 use table::Panel;
 use timing::SEED;
 
-const PARTS: [&str; 6] = ["map", "list", "heap", "index", "book", "instructions"];
+const PARTS: [&str; 7] = [
+    "map",
+    "list",
+    "heap",
+    "index",
+    "book",
+    "instructions",
+    "memory",
+];
 
 fn main() -> io::Result<ExitCode> {
     let chosen: Vec<String> = env::args().skip(1).collect();
@@ -45,6 +53,9 @@ fn main() -> io::Result<ExitCode> {
     }
     if does("instructions") {
         instructions()?;
+    }
+    if does("memory") {
+        memory()?;
     }
     Ok(ExitCode::SUCCESS)
 }
@@ -95,6 +106,17 @@ fn instructions() -> io::Result<()> {
         }
         None => println!("Not counted: valgrind, Debian's package of that name, is missing.\n"),
     }
+    Ok(())
+}
+
+/// A program of its own prints it, because an allocator that counts would slow the Rust down here.
+fn memory() -> io::Result<()> {
+    println!("## Memory\n");
+    let run = Command::new(env!("CARGO"))
+        .args(["run", "--release", "--quiet", "--bin", "memory"])
+        .current_dir(env!("CARGO_MANIFEST_DIR"))
+        .status()?;
+    assert!(run.success(), "memory: {run}");
     Ok(())
 }
 
