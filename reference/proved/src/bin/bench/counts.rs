@@ -1,5 +1,5 @@
-//! The instructions of the book's calls, counted by valgrind's callgrind: whatever else the machine
-//! does, they are the same.
+//! The instructions of the book's calls, counted by valgrind's callgrind: nothing else that the
+//! machine does moves them.
 //!
 //! Callgrind runs this program again with [`ARGUMENT`], which is to run every row once. It counts
 //! inside [`run_lists`] alone, so that filling a book does not count, and writes a total at the end
