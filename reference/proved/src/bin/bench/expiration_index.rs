@@ -43,10 +43,13 @@ impl Contestant for rust::ExpirationIndex<u64> {
     }
 }
 
+/// A key and its deadline.
+type Held = (u64, u64);
+
 /// Lists of calls on an index, which is filled anew before each round.
 struct Row {
     name: &'static str,
-    lists: fn(&mut SplitMix64, &[(u64, u64)]) -> Vec<Vec<Call>>,
+    lists: fn(&mut SplitMix64, &[Held]) -> Vec<Vec<Call>>,
 }
 
 const ROWS: [Row; 4] = [
@@ -71,12 +74,12 @@ const ROWS: [Row; 4] = [
     },
 ];
 
-fn keys_of(held: &[(u64, u64)]) -> Vec<u64> {
+fn keys_of(held: &[Held]) -> Vec<u64> {
     held.iter().map(|&(key, _)| key).collect()
 }
 
 /// Removes random keys and sets new ones.
-fn churn(random: &mut SplitMix64, held: &[(u64, u64)]) -> Vec<Vec<Call>> {
+fn churn(random: &mut SplitMix64, held: &[Held]) -> Vec<Vec<Call>> {
     let mut keys = keys_of(held);
     let mut list = || {
         let mut calls = Vec::new();
@@ -96,7 +99,7 @@ fn churn(random: &mut SplitMix64, held: &[(u64, u64)]) -> Vec<Vec<Call>> {
 
 /// Pops each deadline when it comes, and sets its key to a later one. An index of the Rust's says
 /// which key it is.
-fn pops(random: &mut SplitMix64, held: &[(u64, u64)]) -> Vec<Vec<Call>> {
+fn pops(random: &mut SplitMix64, held: &[Held]) -> Vec<Vec<Call>> {
     let mut index = rust::ExpirationIndex::new();
     for &(key, deadline) in held {
         index.set_deadline(key, deadline);
@@ -116,7 +119,7 @@ fn pops(random: &mut SplitMix64, held: &[(u64, u64)]) -> Vec<Vec<Call>> {
 
 fn point(random: &mut SplitMix64, row: &Row, size: usize) -> Point {
     let keys = random_keys(random, size);
-    let held: Vec<(u64, u64)> = keys
+    let held: Vec<Held> = keys
         .into_iter()
         .map(|key| (key, random.next() >> 8))
         .collect();
