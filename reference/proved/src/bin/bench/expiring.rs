@@ -125,8 +125,11 @@ impl Contestant<6> for RustBook {
     }
 }
 
-/// Lists of calls on a full book of these keys, which is filled anew before each round, its deadlines
-/// from tick 10,000,000 on.
+/// The deadlines of a full book: so many ticks from the first on.
+const FIRST_DEADLINE: u64 = 10_000_000;
+const DEADLINES: u64 = 1_000_000;
+
+/// Lists of calls on a full book of these keys, which is filled anew before each round.
 struct Row {
     name: &'static str,
     call: fn(&mut SplitMix64, &[u64], turn: u64) -> (u64, Call),
@@ -247,10 +250,14 @@ const ROWS: [Row; 18] = [
 ];
 
 /// Calls that walk the whole book, of which a list has [`WALKS_IN_LIST`].
-const WALKS: [Row; 2] = [
+const WALKS: [Row; 3] = [
     Row {
-        name: "live_len",
+        name: "live_len, none expired",
         call: |_, _, turn| (turn, Call::LiveLen),
+    },
+    Row {
+        name: "live_len, half expired",
+        call: |_, _, _| (FIRST_DEADLINE + DEADLINES / 2, Call::LiveLen),
     },
     Row {
         name: "recency_rank",
@@ -266,7 +273,7 @@ fn workload(row: &Row, size: usize, calls: usize) -> Workload<6> {
     let keys = random_keys(&mut random, size);
     let mut before = vec![Call::Clear.words(0)];
     before.extend(keys.iter().map(|&key| {
-        let lifetime = Ttl::from_millis(10_000_000 + random.below(1_000_000));
+        let lifetime = Ttl::from_millis(FIRST_DEADLINE + random.below(DEADLINES));
         Call::InsertWithTtl(key, !key, lifetime).words(0)
     }));
     let mut turns = 0..;
