@@ -352,7 +352,7 @@ fn lists_of_any_length() {
     }
 }
 
-/// A default lifetime is handed back as 1 and its ticks, or as twice 0.
+/// A default lifetime is handed back as 1 and its ticks, or as twice 0, by a call that may change the book; a look leaves it.
 #[test]
 fn numbers_of_a_default_lifetime() {
     for (read, back) in [([0, 9], [0, 0]), ([1, 9], [1, 9]), ([7, 9], [1, 9])] {
@@ -362,6 +362,8 @@ fn numbers_of_a_default_lifetime() {
         });
         book.numbers[9..11].copy_from_slice(&read);
         book.call(0, Call::Expirations);
+        assert_eq!(book.numbers[9..11], read);
+        book.call(0, Call::PurgeExpired);
         assert_eq!(book.numbers[9..11], back);
     }
 }
