@@ -105,7 +105,6 @@ pub record Removing (ws : List ℕ) (h : LazyMinHeap) (k : ℕ) (ws′ : List �
   pub call : Call ws h (limitsIn ws h) (ofScore (r .answer)) (removed k) nothing ws′ (r .heap) (r .discarded)
   pub answer : IsHeap ws h → r .answer ≡ heldScore (lookup k (modelOf ws h .held))
 
--- the entries before the first live one
 -- `peek_best`
 pub record PeekingBest (ws : List ℕ) (h : LazyMinHeap) (ws′ : List ℕ) (r : Bested) : Type 0 where
   pub call : Call ws h (limitsIn ws h) (ofBest (r .answer)) peeked stale ws′ (r .heap) (r .discarded)
