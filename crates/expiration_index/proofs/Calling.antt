@@ -3,17 +3,15 @@ use mathlib.Core.Path.{_≡_, refl, sym, ap, _∙_}
 use mathlib.Core.Bool.{Bool, true, false, true≢false, cond}
 use mathlib.Core.Logic.{_⊎_, inl, inr, ⊎-elim}
 use mathlib.Core.List.{List, [], _∷_}
-use mathlib.Core.Option.{Option, none, some}
 use Prim.Native.Nat.{ℕ, _-_, _^_, _<_}
 use native.Mathlib.Omega.{arith}
-use lib.Dec.{eqb}
+use lib.Dec.{eqb, leb}
 use lib.ListN.{length}
 use Rattle.time.specs.declared.tick.Tick.{Tick}
 use Rattle.time.specs.declared.refusal.Refusal.{Refusal}
 use Rattle.time.specs.declared.refusal.Refusal.the-variants.{KeyLimitReached}
 use Rattle.time.specs.declared.refusal.Outcome.{Outcome}
 use Rattle.time.specs.declared.refusal.Outcome.the-variants.{Done, Refused}
-use Rattle.time.specs.Deadline.{isExpiredAt}
 use Rattle.binary_heap.specs.declared.entries.Entry.{Entry}
 use Rattle.linked_hash_map.specs.Model as held
 use Rattle.lazy_heap.specs.declared.heap.LazyMinHeap.{LazyMinHeap}
@@ -31,26 +29,25 @@ use Rattle.lazy_heap.specs.declared.heap.Bested.{Bested}
 use Rattle.lazy_heap.specs.declared.heap.Stepped.{Stepped}
 use Rattle.lazy_heap.specs.Words.{limitsOf, limitsWith}
 use Rattle.lazy_heap.specs.Answers.{ofScore, ofBest, ofNumber, ofFlag}
-use Rattle.lazy_heap_model.specs.Model.{Heap, len, heapLen, atMost, heldScore, fromLive, tooMany, rebuilt, renumbered, beforePush, pushed, maybeRebuilt, opened, updated, removed, peeked, popped, poppedFrom, cleared}
+use Rattle.lazy_heap_model.specs.Model.{Heap, len, heapLen, atMost, heldScore, fromLive, tooMany, rebuilt, renumbered, beforePush, pushed, maybeRebuilt, opened, updated, removed, peeked, popped, poppedFrom, bestOfHeap, cleared}
 use Rattle.lazy_heap_model.specs.Model as lazy
 use Rattle.lazy_heap.specs.Heap.{IsHeap}
+use Rattle.lazy_heap.specs.Calls.{takenWithin, poppedAtMost}
 use Rattle.lazy_heap.specs.Calls as heap
 use Rattle.lazy_heap.proofs.Calling.{refused-done, with-refused, with-small}
-use Rattle.lazy_heap.proofs.Laws.{room-limits, popped-peeked}
+use Rattle.lazy_heap.proofs.Laws.{room-limits}
 use Rattle.expiration_index.specs.declared.index.ExpirationIndex.{ExpirationIndex}
 use Rattle.expiration_index.specs.declared.answers.Deadline.{Deadline}
 use Rattle.expiration_index.specs.declared.answers.Deadline.the-variants as deadline
 use Rattle.expiration_index.specs.declared.answers.Due.{Due}
-use Rattle.expiration_index.specs.declared.answers.Due.the-variants as due
 use Rattle.expiration_index.specs.declared.answers.Count.{Count}
 use Rattle.expiration_index.specs.declared.answers.Told.{Told}
-use Rattle.expiration_index.specs.declared.answers.Looked.{Looked}
-use Rattle.expiration_index.specs.Model.{Pair, Pairs, tell, isFull, next, nextDue, ifExpired, nextExpired, expiredDue, pairIn, less, withoutExpired}
+use Rattle.expiration_index.specs.Model.{Pairs, tell, isFull, withoutExpired}
 use Rattle.expiration_index.specs.Answers.{deadlineIn, heldIn, dueIn, countIn, toldIn, ofDeadline, ofDue, ofCount, ofTold}
 use Rattle.expiration_index.specs.Index.{IsIndex, deadlines, heapOf, modelOf}
-use Rattle.expiration_index.specs.Calls.{limit, limitsIn, Opening, Asking, Length, HeapLength, Emptiness, Containing, ExpiredCount, DeadlineOf, Checking, Call, Clearing, Removing, NextDeadline, takenIf, poppedExpired, PoppingExpired, Setting, Taking}
+use Rattle.expiration_index.specs.Calls.{limit, limitsIn, Opening, Asking, Length, HeapLength, Emptiness, Containing, ExpiredCount, DeadlineOf, Checking, Call, Clearing, Removing, NextDeadline, poppedExpired, PoppingExpired, Setting}
 use Rattle.expiration_index.proofs.Pairs.{deadline-pairs, held-pairs, expired-deadlines, deadlines-length, deadlines-opened, deadlines-cleared, deadlines-removed, deadlines-peeked, deadlines-updated, full-deadlines}
-use Rattle.expiration_index.proofs.Nexts.{best-due, deadlines-popped}
+use Rattle.expiration_index.proofs.Nexts.{best-due, expired-due, expired-heap, expired-pairs}
 
 -- ---- an answer refuses where the heap's does
 refuses-deadline : (s : Score) → ofDeadline (deadlineIn s) ≡ ofScore s
@@ -85,6 +82,19 @@ factor-popped m = go (fromLive (m .held) (m .entries))
     go : (l : List Entry) → poppedFrom l m .factor ≡ m .factor
     go [] = refl
     go (e ∷ l) = refl
+
+factor-at-most : (s : ℕ) (m : Heap) → poppedAtMost s m .factor ≡ m .factor
+unfolding peeked
+factor-at-most s m = go (bestOfHeap m)
+  where
+    by : (b : Bool) → cond b (popped m) (peeked m) .factor ≡ m .factor
+    by true = factor-popped m
+    by false = refl
+
+    go : (b : Best) → takenWithin s b m .factor ≡ m .factor
+    go (best.Pair k w) = by (leb w s)
+    go best.Nothing = refl
+    go (best.Refused why) = refl
 
 factor-updated : (k s : ℕ) (m : Heap) → updated k s m .factor ≡ m .factor
 unfolding updated maybeRebuilt rebuilt pushed beforePush renumbered
@@ -199,6 +209,18 @@ module _ {ws ws′ : List ℕ} {x : ExpirationIndex} where
     answer = λ is. e ∙ ap dueIn (o .answer (is .heap)) ∙ best-due (heapOf ws x) (is .heap .valid);
   }
 
+  pub popping : {t : Tick} {r : Bested} {a : Due} → heap.PoppingAtMost ws (x .heap) (t .0) ws′ r → a ≡ dueIn (r .answer) → PoppingExpired ws x t ws′ (record { index = record { heap = r .heap }; answer = a; discarded = r .discarded })
+  popping {t} {r} {a} o e = record {
+    call = record { outcome = c .outcome; refused = c .refused; index = c .index; model = c .model; heap = λ is. c .heap is ∙ left is; discarded = c .discarded; kept = c .kept; limit = c .limit };
+    answer = λ is. e ∙ ap dueIn (o .answer (is .heap)) ∙ expired-due t (heapOf ws x) (is .heap .valid);
+  }
+    where
+      left : IsIndex ws x → poppedAtMost (t .0) (heapOf ws x) ≡ poppedExpired t (heapOf ws x)
+      left is = expired-heap t (heapOf ws x) (is .heap .valid)
+
+      c : Call ws x (ofDue a) (withoutExpired t) (poppedAtMost (t .0)) lazy.stale ws′ (record { heap = r .heap }) (r .discarded)
+      c = call (o .call) (ap ofDue e ∙ refuses-due (r .answer)) (λ is. ap deadlines (left is) ∙ expired-pairs t (heapOf ws x) (is .heap .valid)) (factor-at-most (t .0) (heapOf ws x))
+
   pub setting : {k : ℕ} {t : Tick} {r : Updated} {a : Deadline} → heap.Updating ws (x .heap) k (t .0) ws′ r → a ≡ deadlineIn (r .answer) → x .heap .seq < 2 ^ 64 → Setting ws x k t ws′ (record { index = record { heap = r .heap }; answer = a; discarded = r .discarded })
   unfolding deadlines
   setting {k} {t} {r} {a} o e word = record {
@@ -229,93 +251,3 @@ module _ {ws ws′ : List ℕ} {x : ExpirationIndex} where
       by-full : IsIndex ws x → (b : Bool) → lazy.isFull k (heapOf ws x) ≡ b → IsIndex ws′ (record { heap = r .heap })
       by-full is true q = record { heap = o .heap (is .heap); factor = ap (λ (h : LazyMinHeap). h .factor) (o .refused KeyLimitReached (ap ofScore (full is q)) .0) ∙ is .factor }
       by-full is false q = index-after is (o .heap (is .heap)) (o .model (is .heap) q) (factor-updated k (t .0) (heapOf ws x))
-
--- ---- taking the next deadline
-pub taking : {ws ws′ : List ℕ} {x : ExpirationIndex} {r : Bested} → heap.PoppingBest ws (x .heap) ws′ r → Taking ws x ws′ (record { heap = r .heap })
-taking o = record {
-  heap = λ is. let t = o .call .outcome ∙ room-limits (is .heap .parts .room) in (o .call .heap t (is .heap), o .call .model t (is .heap));
-  kept = o .call .kept;
-  limit = o .call .capacity;
-}
-
--- the next due, from the answer that tells it
-due-pair : {k : ℕ} {t : Tick} (l : Pairs) → due.Pair k t ≡ nextDue l → next l ≡ some (record { key = k; deadline = t })
-unfolding nextDue
-due-pair {k} {t} l e = go (next l) refl
-  where
-    go : (o : Option Pair) → next l ≡ o → next l ≡ some (record { key = k; deadline = t })
-    go none q = absurd (let w : due.Pair k t ≡ due.Nothing = e ∙ ap pairIn q in let z : _≡_ {A = ℕ} 0 1 = cc in omega arith)
-    go (some p) q =
-        let w : due.Pair k t ≡ due.Pair (p .key) (p .deadline) = e ∙ ap pairIn q in
-        let a : p .key ≡ k = cc in
-        let b : p .deadline ≡ t = cc in
-        q ∙ ap some (λ z. record { key = a z; deadline = b z })
-
-due-none : (l : Pairs) → due.Nothing ≡ nextDue l → next l ≡ none
-unfolding nextDue
-due-none l e = go (next l) refl
-  where
-    go : (o : Option Pair) → next l ≡ o → next l ≡ none
-    go none q = q
-    go (some p) q = absurd (let w : due.Nothing ≡ due.Pair (p .key) (p .deadline) = e ∙ ap pairIn q in let z : _≡_ {A = ℕ} 0 1 = cc in omega arith)
-
-module _ {ws ws₁ : List ℕ} {x : ExpirationIndex} {n : Looked} (o : NextDeadline ws x ws₁ n) where
-  -- nothing is taken: what is looked at stays
-  left : {t : Tick} (told : Due) → ofDue told ≡ ofDue (n .answer) → (IsIndex ws x → nextExpired t (modelOf ws x) ≡ none) → (IsIndex ws x → told ≡ due.Nothing) → PoppingExpired ws x t ws₁ (record { index = n .index; answer = told; discarded = n .discarded })
-  unfolding poppedExpired withoutExpired expiredDue
-  left {t} told same nothing answer = record {
-    call = record {
-      outcome = same ∙ o .call .outcome;
-      refused = λ why q. o .call .refused why (sym same ∙ q);
-      index = o .call .index;
-      model = λ is. o .call .model is ∙ sym (ap (λ (p : Option Pair). less p (modelOf ws x)) (nothing is));
-      heap = λ is. o .call .heap is ∙ sym (ap (λ (p : Option Pair). takenIf p (heapOf ws x)) (nothing is));
-      discarded = o .call .discarded;
-      kept = o .call .kept;
-      limit = o .call .limit;
-    };
-    answer = λ is. answer is ∙ sym (ap pairIn (nothing is));
-  }
-
-  pub popping-none : {t : Tick} → n .answer ≡ due.Nothing → PoppingExpired ws x t ws₁ n
-  unfolding nextExpired
-  popping-none {t} e = left (n .answer) refl (λ is. ap (ifExpired t) (due-none (modelOf ws x) (sym e ∙ o .answer is))) (λ is. e)
-
-  pub popping-refused : {t : Tick} {why : Refusal} → n .answer ≡ due.Refused why → PoppingExpired ws x t ws₁ n
-  popping-refused {why = why} e = left (n .answer) refl (λ is. absurd (never is)) (λ is. absurd (never is))
-    where
-      never : IsIndex ws x → ⊥
-      never is = refused-done why (sym (ap ofDue e) ∙ o .call .outcome ∙ room-limits (is .heap .parts .room))
-
-  module _ {k : ℕ} {d : Tick} (e : n .answer ≡ due.Pair k d) where
-    found : IsIndex ws x → next (modelOf ws x) ≡ some (record { key = k; deadline = d })
-    found is = due-pair (modelOf ws x) (sym e ∙ o .answer is)
-
-    pub popping-later : {t : Tick} → isExpiredAt d t ≡ false → PoppingExpired ws x t ws₁ (record { index = n .index; answer = due.Nothing; discarded = n .discarded })
-    unfolding nextExpired
-    popping-later {t} f = left due.Nothing (sym (ap ofDue e)) (λ is. ap (ifExpired t) (found is) ∙ rw f) (λ is. refl)
-
-    pub popping : {t : Tick} {ws′ : List ℕ} {y : ExpirationIndex} → isExpiredAt d t ≡ true → Taking ws₁ (n .index) ws′ y → PoppingExpired ws x t ws′ (record { index = y; answer = due.Pair k d; discarded = n .discarded })
-    unfolding poppedExpired withoutExpired expiredDue nextExpired
-    popping {t} {ws′} {y} f take = record {
-      call = record {
-        outcome = sym (ap ofDue e) ∙ o .call .outcome;
-        refused = λ why q. absurd (refused-done why (sym q));
-        index = λ is. index-after is (taken is .0) (taken-heap is) (factor-popped (heapOf ws x));
-        model = λ is. ap deadlines (taken-heap is) ∙ deadlines-popped (heapOf ws x) (is .heap .valid) ∙ rw (found is, f);
-        heap = λ is. taken-heap is ∙ sym (ap (λ (p : Option Pair). takenIf p (heapOf ws x)) (expired is));
-        discarded = o .call .discarded;
-        kept = record { size = take .kept .size ∙ o .call .kept .size; past = λ j b. take .kept .past j (rw (o .call .limit) b) ∙ o .call .kept .past j b };
-        limit = take .limit ∙ o .call .limit;
-      };
-      answer = λ is. sym (ap pairIn (expired is));
-    }
-      where
-        expired : IsIndex ws x → nextExpired t (modelOf ws x) ≡ some (record { key = k; deadline = d })
-        expired is = ap (ifExpired t) (found is) ∙ rw f
-
-        taken : IsIndex ws x → IsHeap ws′ (y .heap) × (heapOf ws′ y ≡ popped (heapOf ws₁ (n .index)))
-        taken is = take .heap (o .call .index is)
-
-        taken-heap : IsIndex ws x → heapOf ws′ y ≡ popped (heapOf ws x)
-        taken-heap is = taken is .1 ∙ ap popped (o .call .heap is) ∙ popped-peeked (heapOf ws x)

@@ -1,29 +1,34 @@
 -- The heap's best is the next due: numbers fall from the latest set to the earliest, so that the least by deadline and then
 -- by number is the least by deadline, and of equal ones the earliest set.
 use mathlib.Core.Path.{_≡_, refl, sym, ap, _∙_}
-use mathlib.Core.Bool.{true}
+use mathlib.Core.Bool.{Bool, true, false, cond}
 use mathlib.Core.Logic.{⊎-elim}
 use mathlib.Core.List.{List, [], _∷_, _++_, List·Memᴰ}
 use mathlib.Core.List.{List·Memᴰ·head as head, List·Memᴰ·tail as tail, List·Memᴰ·cases-cons as cases-cons, List·Memᴰ·not-nil as not-nil}
 use mathlib.Core.Option.{Option, none, some}
 use Prim.Native.Nat.{ℕ, _<_, _≤_}
 use native.Mathlib.Omega.{arith}
+use lib.Dec.{leb}
 use lib.ListN.{length}
 use borrow.Author.Tests.{lt-ltb, le-ltb}
 use Rattle.time.specs.declared.tick.Tick.{Tick}
+use Rattle.time.specs.Deadline.{isExpiredAt}
 use Rattle.binary_heap.specs.declared.entries.Entry.{Entry}
 use Rattle.binary_heap.specs.Order.{le}
 use Rattle.binary_heap.proofs.Laws.{le-same, le-then}
 use Rattle.binary_heap.proofs.Order.{by-score, by-seq}
 use Rattle.rings.proofs.Counts.{by-lt, by-eq}
 use Rattle.linked_hash_map.specs.declared.map.Record.{Record}
+use Rattle.lazy_heap_model.specs.declared.scores.Best.the-variants as best
 use Rattle.lazy_heap_model.specs.Model.{Heap, entryOf, fromLive, peeked, popped, poppedFrom, bestOfHeap}
 use Rattle.lazy_heap.specs.Valid.{Falling, Valid}
+use Rattle.lazy_heap.specs.Calls.{withinBest, poppedAtMost}
 use Rattle.lazy_heap.proofs.Helds.{falling-below}
 use Rattle.lazy_heap.proofs.Laws.{best-is, best-none}
-use Rattle.expiration_index.specs.Model.{Pair, Pairs, without, sooner, soonest, next, nextDue, pairIn, ifExpired, nextExpired, less}
+use Rattle.expiration_index.specs.Model.{Pair, Pairs, without, sooner, soonest, next, nextDue, pairIn, ifExpired, nextExpired, expiredDue, less, withoutExpired}
 use Rattle.expiration_index.specs.Answers.{dueIn}
 use Rattle.expiration_index.specs.Index.{pairOf, pairs, deadlines}
+use Rattle.expiration_index.specs.Calls.{takenIf, poppedExpired}
 use Rattle.expiration_index.proofs.Pairs.{without-pairs, deadlines-peeked}
 
 -- ---- a pair more
@@ -123,3 +128,41 @@ best-taken t m v {p} e = go (best-next m v)
     go : Best m → 1 ≤ length (fromLive (m .held) (m .entries))
     go (empty n q) = absurd (let w : none ≡ some p = ap (ifExpired t) (sym n) ∙ e in let z : _≡_ {A = ℕ} 0 1 = cc in omega arith)
     go (first r es n q) = rw q (omega arith)
+
+-- ---- `pop_at_most` at a tick: the heap's best has at most that score where the next due is expired
+module _ (t : Tick) (m : Heap) (v : Valid m) where
+  pub expired-due : dueIn (withinBest (t .0) (bestOfHeap m)) ≡ expiredDue t (deadlines m)
+  unfolding expiredDue nextExpired isExpiredAt
+  expired-due = go (best-next m v)
+    where
+      by : (r : Record) (b : Bool) → dueIn (cond b (best.Pair (r .key) (r .first)) best.Nothing) ≡ pairIn (cond b (some (pairOf r)) none)
+      by r true = refl
+      by r false = refl
+
+      go : Best m → dueIn (withinBest (t .0) (bestOfHeap m)) ≡ pairIn (ifExpired t (next (deadlines m)))
+      go (empty n q) = rw (n, q)
+      go (first r es n q) = rw (n, q) (by r (leb (r .first) (t .0)))
+
+  pub expired-heap : poppedAtMost (t .0) m ≡ poppedExpired t m
+  unfolding poppedExpired nextExpired isExpiredAt
+  expired-heap = go (best-next m v)
+    where
+      by : (r : Record) (b : Bool) → cond b (popped m) (peeked m) ≡ takenIf (cond b (some (pairOf r)) none) m
+      by r true = refl
+      by r false = refl
+
+      go : Best m → poppedAtMost (t .0) m ≡ takenIf (ifExpired t (next (deadlines m))) m
+      go (empty n q) = rw (n, q)
+      go (first r es n q) = rw (n, q) (by r (leb (r .first) (t .0)))
+
+  pub expired-pairs : deadlines (poppedExpired t m) ≡ withoutExpired t (deadlines m)
+  unfolding poppedExpired withoutExpired nextExpired
+  expired-pairs = go (next (deadlines m)) refl
+    where
+      go : (o : Option Pair) → next (deadlines m) ≡ o → deadlines (takenIf (ifExpired t o) m) ≡ less (ifExpired t o) (deadlines m)
+      go none n = deadlines-peeked m
+      go (some p) n = by (isExpiredAt (p .deadline) t)
+        where
+          by : (b : Bool) → deadlines (takenIf (cond b (some p) none) m) ≡ less (cond b (some p) none) (deadlines m)
+          by true = deadlines-popped m v ∙ ap (λ (o : Option Pair). less o (deadlines m)) n
+          by false = deadlines-peeked m

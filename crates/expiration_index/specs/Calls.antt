@@ -149,10 +149,3 @@ pub record Setting (ws : List ℕ) (x : ExpirationIndex) (k : ℕ) (t : Tick) (w
   pub word : x .heap .seq < 2 ^ 64
   pub kept : Kept (limit x) ws ws′
   pub limit : limit (r .index) ≡ limit x
-
--- ---- a step
--- `take_next`
-pub record Taking (ws : List ℕ) (x : ExpirationIndex) (ws′ : List ℕ) (r : ExpirationIndex) : Type 0 where
-  pub heap : IsIndex ws x → (IsHeap ws′ (r .heap)) × (heapOf ws′ r ≡ popped (heapOf ws x))
-  pub kept : Kept (limit x) ws ws′
-  pub limit : limit r ≡ limit x

@@ -1,7 +1,7 @@
 // The index's calls. Each leaves the work, and the refusals, to the heap, and reads its scores as deadlines.
 ghost use mathlib.Core.Path.{_≡_};
 ghost use Rattle.expiration_index.specs.Answers.{deadlineIn, dueIn, countIn, toldIn, heldIn};
-ghost use Rattle.expiration_index.specs.Calls.{Opening, Clearing, Length, HeapLength, Emptiness, DeadlineOf, Containing, ExpiredCount, Setting, Removing, NextDeadline, PoppingExpired, Taking, Checking};
+ghost use Rattle.expiration_index.specs.Calls.{Opening, Clearing, Length, HeapLength, Emptiness, DeadlineOf, Containing, ExpiredCount, Setting, Removing, NextDeadline, PoppingExpired, Checking};
 use crate::answers::Changed;
 use crate::answers::Cleared;
 use crate::answers::Count;
@@ -185,26 +185,13 @@ impl ExpirationIndex {
     pub fn pop_expired(self, words: &mut [u64], tick: Tick) -> Looked
         ensures { λ r. ⌜ PoppingExpired (now (words .entry)) self tick (now (words .exit)) r ⌝ }
     {
-        let next = self.next_deadline(words);
-        let index = next.index;
-        let due = next.answer;
-        match due {
-            Due::Pair(_, deadline) => {
-                if deadline.is_expired_at(tick) {
-                    return Looked {
-                        index: index.take_next(words),
-                        answer: due,
-                        discarded: next.discarded,
-                    };
-                }
-                Looked {
-                    index,
-                    answer: Due::Nothing,
-                    discarded: next.discarded,
-                }
-            }
-            Due::Nothing => next,
-            Due::Refused(_) => next,
+        let popped = self.heap.pop_at_most(words, tick.0);
+        let heap = popped.heap;
+        let best = popped.answer;
+        Looked {
+            index: ExpirationIndex { heap },
+            answer: due_in(best),
+            discarded: popped.discarded,
         }
     }
 
@@ -225,15 +212,5 @@ impl ExpirationIndex {
             return heap.check(words);
         }
         false
-    }
-
-    // Takes the next deadline out.
-    fn take_next(self, words: &mut [u64]) -> ExpirationIndex
-        ensures { λ r. ⌜ Taking (now (words .entry)) self (now (words .exit)) r ⌝ }
-    {
-        let heap = self.heap;
-        let popped = heap.pop_best(words);
-        let rest = popped.heap;
-        ExpirationIndex { heap: rest }
     }
 }

@@ -1,15 +1,17 @@
 -- The first live entry: told, or taken.
 use mathlib.Core.Path.{_≡_, refl, sym, ap, _∙_, subst}
 use mathlib.Core.List.{List, [], _∷_}
-use Prim.Native.Nat.{ℕ}
+use Prim.Native.Nat.{ℕ, _<_, _≤_}
 use native.Mathlib.Omega.{arith}
 use lib.ListN.{length}
+use borrow.Author.Tests.{le-leb, lt-leb}
 use Rattle.binary_heap.specs.declared.entries.Entry.{Entry}
 use Rattle.binary_heap.specs.declared.heap.Top.{Top}
 use Rattle.binary_heap.specs.declared.heap.Top.the-variants as top
 use Rattle.binary_heap.specs.Heap.{first, rest}
 use Rattle.linked_hash_map.specs.declared.map.Removed.{Removed}
 use Rattle.linked_hash_map.specs.Calls as scores
+use Rattle.time.specs.declared.refusal.Outcome.{Outcome}
 use Rattle.time.specs.declared.refusal.Outcome.the-variants.{Done}
 use Rattle.lazy_heap.specs.declared.heap.LazyMinHeap.{LazyMinHeap}
 use Rattle.lazy_heap.specs.declared.heap.Step.{Step}
@@ -17,11 +19,11 @@ use Rattle.lazy_heap_model.specs.declared.scores.Best.{Best}
 use Rattle.lazy_heap_model.specs.declared.scores.Best.the-variants as best
 use Rattle.lazy_heap.specs.Answers.{ofBest}
 use Rattle.lazy_heap.specs.Words.{limitsOf, Kept}
-use Rattle.lazy_heap_model.specs.Model.{Heap, bestIn, fromLive, removed, peeked, popped, poppedFrom}
+use Rattle.lazy_heap_model.specs.Model.{Heap, bestIn, fromLive, stale, removed, peeked, popped, poppedFrom}
 use Rattle.lazy_heap.specs.Valid.{Valid}
 use Rattle.lazy_heap.specs.Heap.{heldOf, entriesOf, modelOf, Parts, IsHeap}
-use Rattle.lazy_heap.specs.Steps.{bestOf, Discarding, Peeking, Popping}
-use Rattle.lazy_heap.specs.Calls.{PeekingBest, PoppingBest}
+use Rattle.lazy_heap.specs.Steps.{bestOf, Discarding, Peeking, Popping, Taking}
+use Rattle.lazy_heap.specs.Calls.{Call, limitsIn, PeekingBest, PoppingBest, poppedAtMost, PoppingAtMost}
 use Rattle.lazy_heap.proofs.Valid.{valid-popped, from-length}
 use Rattle.lazy_heap.proofs.Stepping.{same-heap, same-capacity}
 use Rattle.lazy_heap.proofs.Calling.{call-done, Fair, fair-heap, fair-peeked, heap-again, remove-parts, remove-model, remove-kept}
@@ -84,45 +86,72 @@ module _ {ws ws₁ : List ℕ} {h : LazyMinHeap} {s : Step} {t : Top} (d : Disca
       model : IsHeap ws h → modelOf ws₁ (s .heap) ≡ popped (modelOf ws h)
       model is = peek-model (is .parts) ∙ sym (ap (λ (l : List Entry). poppedFrom l (modelOf ws h)) (none is))
 
-  module _ {ws₂ ws′ : List ℕ} {h₂ : LazyMinHeap} {r : Removed} (e : Entry) (pop : Popping ws₁ (s .heap) ws₂ h₂) (out : scores.Removing ws₂ (h₂ .scores) (e .key) ws′ r) where
-    abbrev left : LazyMinHeap
-    left = record { scores = r .map; entries = h₂ .entries; seq = h₂ .seq; factor = h₂ .factor }
-
-    abbrev shorter : Heap
-    shorter = record { limit = h .scores .capacity; factor = h .factor; next = h .seq; held = heldOf ws h; entries = rest from }
-
-    capacity-same : h₂ .scores .capacity ≡ h .scores .capacity
-    capacity-same = same-capacity (pop .entered .scores ∙ d .entered .scores)
-
-    pop-model : Parts ws h → modelOf ws₂ h₂ ≡ shorter
-    pop-model p =
-        same-heap
-        capacity-same
-        (pop .entered .factor ∙ d .entered .factor)
-        (pop .entered .seq ∙ d .entered .seq)
-        (pop .entered .held (d .parts p) ∙ d .entered .held p)
-        (pop .entries (d .parts p) ∙ ap rest (d .entries p))
-
+  module _ {ws′ : List ℕ} {left : LazyMinHeap} (e : Entry) (take : Taking ws₁ (s .heap) (e .key) ws′ left) where
     pub popping-best : t ≡ top.Entry e → PoppingBest ws h ws′ (record { heap = left; answer = best.Pair (e .key) (e .score); discarded = s .discarded })
     unfolding popped removed
     popping-best q = record {
-      call = call-done refl ok (λ is. heap-again (remove-parts h₂ (e .key) out (pop .parts (d .parts (is .parts)))) (model is) (fair-popped (fair-heap is))) model (λ is. d .discarded (is .parts)) (out .capacity ∙ capacity-same) kept;
+      call = call-done refl ok (λ is. heap-again (take .parts (d .parts (is .parts))) (model is) (fair-popped (fair-heap is))) model (λ is. d .discarded (is .parts)) (take .capacity ∙ same-capacity (d .entered .scores)) kept;
       answer = λ is. sym (ap bestIn (some is));
     }
       where
         some : IsHeap ws h → from ≡ e ∷ rest from
         some is = first-some from e (sym (told (is .parts)) ∙ q)
 
+        settled : Parts ws h → _≡_ {A = Heap} (record { limit = s .heap .scores .capacity; factor = s .heap .factor; next = s .heap .seq; held = heldOf ws₁ (s .heap); entries = rest (entriesOf ws₁ (s .heap)) }) (record { limit = h .scores .capacity; factor = h .factor; next = h .seq; held = heldOf ws h; entries = rest from })
+        settled p = same-heap (same-capacity (d .entered .scores)) (d .entered .factor) (d .entered .seq) (d .entered .held p) (ap rest (d .entries p))
+
         model : IsHeap ws h → modelOf ws′ left ≡ popped (modelOf ws h)
         model is =
-            remove-model h₂ (e .key) out (pop .parts (d .parts (is .parts)))
-            ∙ ap (removed (e .key)) (pop-model (is .parts))
+            take .model (d .parts (is .parts))
+            ∙ ap (removed (e .key)) (settled (is .parts))
             ∙ sym (ap (λ (l : List Entry). poppedFrom l (modelOf ws h)) (some is))
 
         kept : Kept (h .scores .capacity) ws ws′
-        kept =
-            let k = remove-kept h₂ (e .key) out in
-            record {
-              size = k .size ∙ pop .entered .kept .size ∙ d .entered .kept .size;
-              past = λ j b. k .past j (rw capacity-same b) ∙ pop .entered .kept .past j (rw (same-capacity (d .entered .scores)) b) ∙ d .entered .kept .past j b;
-            }
+        kept = record {
+          size = take .kept .size ∙ d .entered .kept .size;
+          past = λ j b. take .kept .past j (rw (same-capacity (d .entered .scores)) b) ∙ d .entered .kept .past j b;
+        }
+
+-- `take_top`
+pub taking : {ws ws₁ ws′ : List ℕ} {h h₁ : LazyMinHeap} {k : ℕ} {r : Removed} → Popping ws h ws₁ h₁ → scores.Removing ws₁ (h₁ .scores) k ws′ r
+    → Taking ws h k ws′ (record { scores = r .map; entries = h₁ .entries; seq = h₁ .seq; factor = h₁ .factor })
+taking {ws} {ws₁} {ws′} {h} {h₁} {k} {r} pop out = record {
+  capacity = out .capacity ∙ same-capacity (pop .entered .scores);
+  parts = λ p. remove-parts h₁ k out (pop .parts p);
+  model = λ p. remove-model h₁ k out (pop .parts p) ∙ ap (removed k) (same-heap (same-capacity (pop .entered .scores)) (pop .entered .factor) (pop .entered .seq) (pop .entered .held p) (pop .entries p));
+  kept =
+    let k = remove-kept h₁ k out in
+    record { size = k .size ∙ pop .entered .kept .size; past = λ j b. k .past j (rw (same-capacity (pop .entered .scores)) b) ∙ pop .entered .kept .past j b };
+}
+
+-- ---- `pop_at_most`: as `pop_best` where the best has at most the score, as `peek_best` where it has not
+module _ {ws ws′ : List ℕ} {h left : LazyMinHeap} {d : ℕ} (s : ℕ) where
+  as-call : {told told′ : Outcome} {next : Heap → Heap} → Call ws h (limitsIn ws h) told next stale ws′ left d → told′ ≡ told → (IsHeap ws h → next (modelOf ws h) ≡ poppedAtMost s (modelOf ws h))
+      → Call ws h (limitsIn ws h) told′ (poppedAtMost s) stale ws′ left d
+  as-call c same model = record {
+    outcome = same ∙ c .outcome;
+    refused = λ why q. c .refused why (sym same ∙ q);
+    heap = λ q. c .heap (sym same ∙ q);
+    model = λ q is. c .model (sym same ∙ q) is ∙ model is;
+    discarded = λ q. c .discarded (sym same ∙ q);
+    capacity = c .capacity;
+    kept = c .kept;
+  }
+
+  pub at-most-taken : {k v : ℕ} → PoppingBest ws h ws′ (record { heap = left; answer = best.Pair k v; discarded = d }) → v ≤ s → PoppingAtMost ws h s ws′ (record { heap = left; answer = best.Pair k v; discarded = d })
+  at-most-taken {k} {v} o l = record {
+    call = as-call (o .call) refl (λ is. rw (sym (o .answer is), le-leb v s l));
+    answer = λ is. rw (sym (o .answer is), le-leb v s l);
+  }
+
+  pub at-most-left : {k v : ℕ} → PeekingBest ws h ws′ (record { heap = left; answer = best.Pair k v; discarded = d }) → s < v → PoppingAtMost ws h s ws′ (record { heap = left; answer = best.Nothing; discarded = d })
+  at-most-left {k} {v} o l = record {
+    call = as-call (o .call) refl (λ is. rw (sym (o .answer is), lt-leb v s l));
+    answer = λ is. rw (sym (o .answer is), lt-leb v s l);
+  }
+
+  pub at-most-none : PeekingBest ws h ws′ (record { heap = left; answer = best.Nothing; discarded = d }) → PoppingAtMost ws h s ws′ (record { heap = left; answer = best.Nothing; discarded = d })
+  at-most-none o = record {
+    call = as-call (o .call) refl (λ is. rw (sym (o .answer is)));
+    answer = λ is. rw (sym (o .answer is));
+  }

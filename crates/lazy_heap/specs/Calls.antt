@@ -4,7 +4,7 @@ use mathlib.Core.Bool.{Bool, true, false, cond}
 use mathlib.Core.Logic.{_⊎_}
 use mathlib.Core.List.{List}
 use Prim.Native.Nat.{ℕ}
-use lib.Dec.{eqb}
+use lib.Dec.{eqb, leb}
 use lib.ListN.{length}
 use Rattle.time.specs.declared.refusal.Refusal.{Refusal}
 use Rattle.time.specs.declared.refusal.Refusal.the-variants.{KeyLimitReached}
@@ -15,6 +15,7 @@ use Rattle.lazy_heap.specs.declared.heap.LazyMinHeap.{LazyMinHeap}
 use Rattle.lazy_heap_model.specs.declared.scores.Score.{Score}
 use Rattle.lazy_heap_model.specs.declared.scores.Score.the-variants as score
 use Rattle.lazy_heap_model.specs.declared.scores.Best.{Best}
+use Rattle.lazy_heap_model.specs.declared.scores.Best.the-variants as best
 use Rattle.lazy_heap.specs.declared.heap.Number.{Number}
 use Rattle.lazy_heap.specs.declared.heap.Number.the-variants as number
 use Rattle.lazy_heap.specs.declared.heap.Flag.{Flag}
@@ -114,6 +115,25 @@ pub record PeekingBest (ws : List ℕ) (h : LazyMinHeap) (ws′ : List ℕ) (r :
 pub record PoppingBest (ws : List ℕ) (h : LazyMinHeap) (ws′ : List ℕ) (r : Bested) : Type 0 where
   pub call : Call ws h (limitsIn ws h) (ofBest (r .answer)) popped stale ws′ (r .heap) (r .discarded)
   pub answer : IsHeap ws h → r .answer ≡ bestOfHeap (modelOf ws h)
+
+-- of the best what has at most a score, and what is left then
+abbrev pub withinBest : ℕ → Best → Best
+withinBest s (best.Pair k v) = cond (leb v s) (best.Pair k v) best.Nothing
+withinBest s best.Nothing = best.Nothing
+withinBest s (best.Refused why) = best.Refused why
+
+abbrev pub takenWithin : ℕ → Best → Heap → Heap
+takenWithin s (best.Pair k v) h = cond (leb v s) (popped h) (peeked h)
+takenWithin s best.Nothing h = peeked h
+takenWithin s (best.Refused why) h = peeked h
+
+abbrev pub poppedAtMost : ℕ → Heap → Heap
+poppedAtMost s h = takenWithin s (bestOfHeap h) h
+
+-- `pop_at_most`
+pub record PoppingAtMost (ws : List ℕ) (h : LazyMinHeap) (s : ℕ) (ws′ : List ℕ) (r : Bested) : Type 0 where
+  pub call : Call ws h (limitsIn ws h) (ofBest (r .answer)) (poppedAtMost s) stale ws′ (r .heap) (r .discarded)
+  pub answer : IsHeap ws h → r .answer ≡ withinBest s (bestOfHeap (modelOf ws h))
 
 -- `update`: refusal 4 comes after 1 and 2. On words that are no heap it may come without its cause.
 pub record Updating (ws : List ℕ) (h : LazyMinHeap) (k s : ℕ) (ws′ : List ℕ) (r : Updated) : Type 0 where

@@ -29,7 +29,7 @@ use Rattle.lazy_heap_model.specs.declared.scores.Best.the-variants as best
 use Rattle.time.specs.declared.refusal.Outcome.the-variants.{Done}
 use Rattle.lazy_heap.specs.Answers.{ofScore}
 use Rattle.lazy_heap.specs.Words.{start, Kept}
-use Rattle.lazy_heap_model.specs.Model.{live, staleBefore, fromLive, atLeastOne, surplus, liveEntries, numbered, renumbered, tooMany, isFull, beforePush, maybeRebuilt, pushed, heldScore}
+use Rattle.lazy_heap_model.specs.Model.{live, staleBefore, fromLive, atLeastOne, surplus, liveEntries, numbered, renumbered, tooMany, isFull, beforePush, maybeRebuilt, pushed, removed, heldScore}
 use Rattle.lazy_heap.specs.Heap.{heldOf, entriesOf, modelOf, Parts}
 
 -- the number after s, which is not the last
@@ -64,6 +64,13 @@ pub record Popping (ws : List ℕ) (h : LazyMinHeap) (ws′ : List ℕ) (r : Laz
   pub count : Parts ws h → r .entries ≡ h .entries - 1
   pub parts : Parts ws h → Parts ws′ r
   pub entries : Parts ws h → entriesOf ws′ r ≡ rest (entriesOf ws h)
+
+-- `take_top`
+pub record Taking (ws : List ℕ) (h : LazyMinHeap) (k : ℕ) (ws′ : List ℕ) (r : LazyMinHeap) : Type 0 where
+  pub capacity : r .scores .capacity ≡ h .scores .capacity
+  pub parts : Parts ws h → Parts ws′ r
+  pub model : Parts ws h → modelOf ws′ r ≡ removed k (record { limit = h .scores .capacity; factor = h .factor; next = h .seq; held = heldOf ws h; entries = rest (entriesOf ws h) })
+  pub kept : Kept (h .scores .capacity) ws ws′
 
 -- `top`
 pub record Peeking (ws : List ℕ) (h : LazyMinHeap) (r : Top) : Type 0 where

@@ -4,8 +4,8 @@ ghost use Prim.Native.Nat.{_-_};
 ghost use lib.ListN.{length};
 ghost use Rattle.lazy_heap.specs.Words.{limitsOf, limitsWith, Room};
 ghost use Rattle.lazy_heap_model.specs.Model.{atLeastOne, heldScore, factorOf, len, heapLen, atMost};
-ghost use Rattle.lazy_heap.specs.Calls.{Opening, Resetting, Asking, AskingEmpty, Scoring, Removing, PeekingBest, PoppingBest, RebuildingNow, RebuildingMaybe, RenumberingNow, Clearing, Updating, Checking};
-ghost use Rattle.lazy_heap.specs.Steps.{bestOf, Adding, Filling, after, replacedScore, Crowding, Living, Pushing, Popping, Peeking, Settled, Discarding, Rebuilding, Numbered, Renumbering, Fitting, Trimming, Holding};
+ghost use Rattle.lazy_heap.specs.Calls.{Opening, Resetting, Asking, AskingEmpty, Scoring, Removing, PeekingBest, PoppingBest, PoppingAtMost, RebuildingNow, RebuildingMaybe, RenumberingNow, Clearing, Updating, Checking};
+ghost use Rattle.lazy_heap.specs.Steps.{bestOf, Adding, Filling, after, replacedScore, Crowding, Living, Pushing, Popping, Peeking, Taking, Settled, Discarding, Rebuilding, Numbered, Renumbering, Fitting, Trimming, Holding};
 ghost use Rattle.lazy_heap.specs.Walks.{CountingWithin, Sound, Agreeing};
 use crate::walks;
 use crate::walks::slot_number;
@@ -353,6 +353,20 @@ impl LazyMinHeap {
                 discarded: 0,
             },
             Outcome::Done => self.pop_within(words),
+        }
+    }
+
+    // The same, where that key's score is at most this one. Else it answers that there is none, and the key stays.
+    pub fn pop_at_most(self, words: &mut [u64], score: u64) -> Bested
+        ensures { λ r. ⌜ PoppingAtMost (now (words .entry)) self score (now (words .exit)) r ⌝ }
+    {
+        match limits(self.scores.capacity, words.len()) {
+            Outcome::Refused(why) => Bested {
+                heap: self,
+                answer: Best::Refused(why),
+                discarded: 0,
+            },
+            Outcome::Done => self.pop_at_most_within(words, score),
         }
     }
 
@@ -855,17 +869,36 @@ impl LazyMinHeap {
         let step = self.settle(words);
         let settled = step.heap;
         match settled.top(words) {
+            Top::Entry(e) => Bested {
+                heap: settled.take_top(words, e.key),
+                answer: Best::Pair(e.key, e.score),
+                discarded: step.discarded,
+            },
+            Top::Nothing => Bested {
+                heap: settled,
+                answer: Best::Nothing,
+                discarded: step.discarded,
+            },
+        }
+    }
+
+    fn pop_at_most_within(self, words: &mut [u64], score: u64) -> Bested
+        requires { ⌜ Room (length (now words)) (self .scores .capacity) ⌝ }
+        ensures { λ r. ⌜ PoppingAtMost (now (words .entry)) self score (now (words .exit)) r ⌝ }
+    {
+        let step = self.settle(words);
+        let settled = step.heap;
+        match settled.top(words) {
             Top::Entry(e) => {
-                let heap = settled.pop(words);
-                let removed = heap.scores.remove(words, e.key);
-                let scores = removed.map;
+                if score < e.score {
+                    return Bested {
+                        heap: settled,
+                        answer: Best::Nothing,
+                        discarded: step.discarded,
+                    };
+                }
                 Bested {
-                    heap: LazyMinHeap {
-                        scores,
-                        entries: heap.entries,
-                        seq: heap.seq,
-                        factor: heap.factor,
-                    },
+                    heap: settled.take_top(words, e.key),
                     answer: Best::Pair(e.key, e.score),
                     discarded: step.discarded,
                 }
@@ -875,6 +908,22 @@ impl LazyMinHeap {
                 answer: Best::Nothing,
                 discarded: step.discarded,
             },
+        }
+    }
+
+    // Takes the first entry out, and a key.
+    fn take_top(self, words: &mut [u64], key: u64) -> LazyMinHeap
+        requires { ⌜ Room (length (now words)) (self .scores .capacity) ⌝ }
+        ensures { λ r. ⌜ Taking (now (words .entry)) self key (now (words .exit)) r ⌝ }
+    {
+        let heap = self.pop(words);
+        let removed = heap.scores.remove(words, key);
+        let scores = removed.map;
+        LazyMinHeap {
+            scores,
+            entries: heap.entries,
+            seq: heap.seq,
+            factor: heap.factor,
         }
     }
 }
