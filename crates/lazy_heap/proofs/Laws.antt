@@ -19,7 +19,7 @@ use Rattle.linked_hash_map.specs.declared.map.Record.{Record}
 use Rattle.linked_hash_map.proofs.Laws as map
 use Rattle.lazy_heap.specs.declared.heap.LazyMinHeap.{LazyMinHeap}
 use Rattle.lazy_heap.specs.Words.{wordsFor, start, part}
-use Rattle.lazy_heap_model.specs.Model.{Heap, entryOf, live, fromLive, atLeastOne, tooMany, rebuilt, maybeRebuilt, updated, peeked, popped, poppedFrom}
+use Rattle.lazy_heap_model.specs.Model.{Heap, entryOf, live, fromLive, atLeastOne, tooMany, rebuilt, maybeRebuilt, updated}
 use Rattle.lazy_heap.specs.Valid.{Valid}
 use Rattle.lazy_heap.specs.Heap.{modelOf, IsHeap}
 use Rattle.lazy_heap.proofs.Parts.{part-length}
@@ -80,23 +80,6 @@ best-none m none = go (fromLive (m .held) (m .entries)) refl
       where
         o : (r : Record) × (List·Memᴰ r (m .held) × (entryOf r ≡ e))
         o = live-held (m .held) e (first-live (m .held) (m .entries) e es q)
-
--- ---- a pop after a peek is a pop
-from-again : (held : List Record) (es : List Entry) → fromLive held (fromLive held es) ≡ fromLive held es
-unfolding fromLive
-from-again held es = go (fromLive held es) refl
-  where
-    go : (l : List Entry) → fromLive held es ≡ l → fromLive held l ≡ l
-    go [] q = refl
-    go (e ∷ l) q = rw (first-live held es e l q)
-
-pub popped-peeked : (m : Heap) → popped (peeked m) ≡ popped m
-unfolding popped peeked
-popped-peeked m = rw (from-again (m .held) (m .entries)) (go (fromLive (m .held) (m .entries)) refl)
-  where
-    go : (l : List Entry) → fromLive (m .held) (m .entries) ≡ l → poppedFrom l (peeked m) ≡ poppedFrom l m
-    go [] q = rw (from-again (m .held) (m .entries))
-    go (e ∷ l) q = refl
 
 -- ---- words past the heap's own do not matter
 module _ {ws : List ℕ} {h : LazyMinHeap} (is : IsHeap ws h) (ws′ : List ℕ) (fits : wordsFor (h .scores .capacity) ≤ length ws′) (same : (j : ℕ) → j < wordsFor (h .scores .capacity) → getD ws′ j 0 ≡ getD ws j 0) where

@@ -890,16 +890,16 @@ impl LazyMinHeap {
         let settled = step.heap;
         match settled.top(words) {
             Top::Entry(e) => {
-                if score < e.score {
+                if e.score <= score {
                     return Bested {
-                        heap: settled,
-                        answer: Best::Nothing,
+                        heap: settled.take_top(words, e.key),
+                        answer: Best::Pair(e.key, e.score),
                         discarded: step.discarded,
                     };
                 }
                 Bested {
-                    heap: settled.take_top(words, e.key),
-                    answer: Best::Pair(e.key, e.score),
+                    heap: settled,
+                    answer: Best::Nothing,
                     discarded: step.discarded,
                 }
             }
