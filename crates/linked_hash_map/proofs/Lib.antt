@@ -7,6 +7,7 @@ pub mod Keeping
 pub mod Probed
 pub mod Finding
 pub mod Putting
+pub mod Places
 pub mod Recycling
 pub mod Walking
 pub mod Opening

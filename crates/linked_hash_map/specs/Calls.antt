@@ -1,19 +1,25 @@
 -- What each call promises: on any words at all, and on a map.
 use mathlib.Core.Path.{_≡_}
-use mathlib.Core.Bool.{Bool, true, false}
+use mathlib.Core.Bool.{Bool, true, false, cond}
 use mathlib.Core.List.{List, []}
 use Prim.Native.Nat.{ℕ, _+_, _≤_}
 use lib.ListN.{length}
+use Rattle.cells.specs.declared.Probe.{Probe}
+use Rattle.cells.specs.declared.Probe.the-variants as probed
+use Rattle.cells.specs.Probe.{probe}
 use Rattle.linked_hash_map.specs.declared.map.LinkedHashMap.{LinkedHashMap}
 use Rattle.linked_hash_map.specs.declared.map.Record.{Record}
 use Rattle.linked_hash_map.specs.declared.map.Slot.{Slot}
 use Rattle.linked_hash_map.specs.declared.map.Slot.the-variants as slot
+use Rattle.linked_hash_map.specs.declared.map.Place.{Place}
+use Rattle.linked_hash_map.specs.declared.map.Place.the-variants as place
 use Rattle.linked_hash_map.specs.declared.map.Placed.the-variants as placed
 use Rattle.linked_hash_map.specs.declared.map.Taken.the-variants as taken
 use Rattle.linked_hash_map.specs.declared.map.Opened.{Opened}
 use Rattle.linked_hash_map.specs.declared.map.Put.{Put}
 use Rattle.linked_hash_map.specs.declared.map.Removed.{Removed}
 use Rattle.linked_hash_map.specs.Words.{fit, Kept}
+use Rattle.linked_hash_map.specs.Numbers.{shrunkMap}
 use Rattle.linked_hash_map.specs.Model.{has, lookup, nth, without, toFront, withPayload, placing, put, recycled}
 use Rattle.linked_hash_map.specs.Map.{IsMap, modelOf, slotOf, slotAt}
 
@@ -96,6 +102,30 @@ pub record Removing (ws : List ℕ) (m : LinkedHashMap) (k : ℕ) (ws′ : List 
   pub capacity : r .map .capacity ≡ m .capacity
   pub map : IsMap ws m → IsMap ws′ (r .map)
   pub model : IsMap ws m → modelOf ws′ (r .map) ≡ without k (modelOf ws m)
+  pub kept : Kept (m .capacity) ws ws′
+
+-- `seek`: where the probe of a key ends
+abbrev pub placeFrom : Probe → Place
+placeFrom (probed.At c s) = place.At c s
+placeFrom (probed.Free c) = place.Free c
+placeFrom probed.Full = place.Full
+
+unfoldable pub placeOf : List ℕ → LinkedHashMap → ℕ → Place
+placeOf ws m k = cond (fit (m .capacity) (length ws)) (placeFrom (probe ws (m .capacity) k)) place.Refused
+
+-- `replace_at`: what `put` does where its key is at a slot
+pub record ReplacingAt (ws : List ℕ) (m : LinkedHashMap) (s : ℕ) (x : Record) (ws′ : List ℕ) (r : Record) : Type 0 where
+  pub put : (c : ℕ) → placeOf ws m (x .key) ≡ place.At c s → Putting ws m x ws′ (record { map = m; answer = placed.Replaced r })
+  pub kept : Kept (m .capacity) ws ws′
+
+-- `insert_at`: where its key is new
+pub record InsertingAt (ws : List ℕ) (m : LinkedHashMap) (c : ℕ) (x : Record) (ws′ : List ℕ) (r : Put) : Type 0 where
+  pub put : placeOf ws m (x .key) ≡ place.Free c → Putting ws m x ws′ r
+  pub kept : Kept (m .capacity) ws ws′
+
+-- `take_at`: what `remove` does where its key is at a cell and a slot
+pub record TakingAt (ws : List ℕ) (m : LinkedHashMap) (c s : ℕ) (ws′ : List ℕ) (r : Record) : Type 0 where
+  pub remove : (k : ℕ) → placeOf ws m k ≡ place.At c s → Removing ws m k ws′ (record { map = shrunkMap m; answer = taken.Record r })
   pub kept : Kept (m .capacity) ws ws′
 
 -- `recycle`: a record at the front, in the place of another key's

@@ -114,11 +114,8 @@ pub fn erase(words: &mut [u64], n: usize, p: usize)
     ensures { λ _. ⌜ now (words .exit) ≡ erased (now (words .entry)) n p ⌝ }
 {
     let v = cell(words, n, after(n, p));
-    if v == 0 {
-        set_cell(words, n, p, 0);
-    } else {
-        set_cell(words, n, p, TOMBSTONE);
-    }
+    let mark = if v == 0 { 0 } else { TOMBSTONE };
+    set_cell(words, n, p, mark);
 }
 
 // Every cell as never used.

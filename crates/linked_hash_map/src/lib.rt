@@ -10,7 +10,8 @@
 // Cells find a key's record by linear probing, four cells of 16 bits to a word (crate `cells`): at most one cell in
 // twelve holds a record, so that a lookup seldom goes beyond its first cell.
 //
-// `find`, `touch`, `put`, `remove` and `recycle` take expected constant time, `open` and `check` time in proportion to n, and
+// `find`, `touch`, `seek`, `put`, `remove` and `recycle` take expected constant time, and what goes on at a place constant time;
+// `open` and `check` time in proportion to n, and
 // `clear` to the records held, or to n where they are more than an eighth of it.
 // Any words and any numbers may be handed to any call: a number is tested before it is an index, and every walk is
 // counted. Where the words are no map, only they and the numbers handed back may change.
@@ -21,6 +22,7 @@ mod map;
 
 pub use map::LinkedHashMap;
 pub use map::Opened;
+pub use map::Place;
 pub use map::Placed;
 pub use map::Put;
 pub use map::Record;

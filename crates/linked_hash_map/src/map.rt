@@ -5,7 +5,7 @@ ghost use lib.ListN.{length};
 ghost use Rattle.cells.specs.Cells.{cellCount};
 ghost use Rattle.linked_hash_map.specs.Words.{fit, Room, Nodes, recordAt, written, emptied, refilled, replaced, takenOut};
 ghost use Rattle.linked_hash_map.specs.Numbers.{emptyMap, shrunkMap, slotFrom, lenAfter, Grown, Inserting, Renewing};
-ghost use Rattle.linked_hash_map.specs.Calls.{Opening, Clearing, Draining, Finding, Touching, Reading, Writing, Putting, Removing, Recycling, Ending, Next, Previous, Checking};
+ghost use Rattle.linked_hash_map.specs.Calls.{Opening, Clearing, Draining, Finding, Touching, Reading, Writing, placeOf, ReplacingAt, InsertingAt, TakingAt, Putting, Removing, Recycling, Ending, Next, Previous, Checking};
 use crate::check;
 use crate::index;
 use crate::links;
@@ -30,6 +30,17 @@ pub enum Slot {
     At(usize),
     Nothing,
     // The capacity is above 4,096, or the words are too few for it.
+    Refused,
+}
+
+// Where a key's record is, or would go.
+pub enum Place {
+    // A cell, and the slot that it leads to.
+    At(usize, usize),
+    // A cell that may be taken.
+    Free(usize),
+    // Nowhere: every cell holds a record, as in no map.
+    Full,
     Refused,
 }
 
@@ -308,9 +319,38 @@ impl LinkedHashMap {
         }
     }
 
-    // Puts the record at the front, in the place of its key's old one where there is one.
-    pub fn put(self, words: &mut [u64], item: Record) -> Put
-        ensures { λ r. ⌜ Putting (now (words .entry)) self item (now (words .exit)) r ⌝ }
+    // For a call that goes on at the place, so that the key is looked for once.
+    pub fn seek(self, words: &[u64], key: u64) -> Place
+        ensures { λ r. ⌜ r ≡ placeOf (now (words .entry)) self key ⌝ }
+    {
+        let n = self.capacity;
+        if !has_room(n, words.len()) {
+            return Place::Refused;
+        }
+        match index::probe(words, n, key) {
+            Probe::At(c, s) => Place::At(c, s),
+            Probe::Free(c) => Place::Free(c),
+            Probe::Full => Place::Full,
+        }
+    }
+
+    // Puts the record over the one of its key, which is at this slot, and hands that back. The numbers stay.
+    pub fn replace_at(self, words: &mut [u64], slot: usize, item: Record) -> Record
+        ensures { λ r. ⌜ ReplacingAt (now (words .entry)) self slot item (now (words .exit)) r ⌝ }
+    {
+        let n = self.capacity;
+        if !has_room(n, words.len()) {
+            return item;
+        }
+        if n <= slot {
+            return item;
+        }
+        replace(words, n, slot, item)
+    }
+
+    // Puts the record of a new key at the front, and its cell at c.
+    pub fn insert_at(self, words: &mut [u64], c: usize, item: Record) -> Put
+        ensures { λ r. ⌜ InsertingAt (now (words .entry)) self c item (now (words .exit)) r ⌝ }
     {
         let n = self.capacity;
         if !has_room(n, words.len()) {
@@ -319,15 +359,54 @@ impl LinkedHashMap {
                 answer: Placed::Refused,
             };
         }
-        match index::probe(words, n, item.key) {
-            Probe::At(_, s) => Put {
+        if 12 * n + 192 <= c {
+            return Put {
                 map: self,
-                answer: Placed::Replaced(replace(words, n, s, item)),
+                answer: Placed::Refused,
+            };
+        }
+        self.insert(words, item, c)
+    }
+
+    // Takes the record at this cell and slot out, and hands it back. The numbers are then those of `shrunk`.
+    pub fn take_at(self, words: &mut [u64], c: usize, slot: usize) -> Record
+        ensures { λ r. ⌜ TakingAt (now (words .entry)) self c slot (now (words .exit)) r ⌝ }
+    {
+        let n = self.capacity;
+        let none = Record {
+            key: 0,
+            first: 0,
+            second: 0,
+        };
+        if !has_room(n, words.len()) {
+            return none;
+        }
+        if n <= slot {
+            return none;
+        }
+        if 12 * n + 192 <= c {
+            return none;
+        }
+        take(words, n, c, slot)
+    }
+
+    // Puts the record at the front, in the place of its key's old one where there is one.
+    pub fn put(self, words: &mut [u64], item: Record) -> Put
+        ensures { λ r. ⌜ Putting (now (words .entry)) self item (now (words .exit)) r ⌝ }
+    {
+        match self.seek(words, item.key) {
+            Place::At(_, s) => Put {
+                map: self,
+                answer: Placed::Replaced(self.replace_at(words, s, item)),
             },
-            Probe::Free(c) => self.insert(words, item, c),
-            Probe::Full => Put {
+            Place::Free(c) => self.insert_at(words, c, item),
+            Place::Full => Put {
                 map: self,
                 answer: Placed::Full,
+            },
+            Place::Refused => Put {
+                map: self,
+                answer: Placed::Refused,
             },
         }
     }
@@ -381,25 +460,22 @@ impl LinkedHashMap {
     pub fn remove(self, words: &mut [u64], key: u64) -> Removed
         ensures { λ r. ⌜ Removing (now (words .entry)) self key (now (words .exit)) r ⌝ }
     {
-        let n = self.capacity;
-        if !has_room(n, words.len()) {
-            return Removed {
+        match self.seek(words, key) {
+            Place::At(c, s) => Removed {
+                map: self.shrunk(),
+                answer: Taken::Record(self.take_at(words, c, s)),
+            },
+            Place::Free(_) => Removed {
+                map: self,
+                answer: Taken::Nothing,
+            },
+            Place::Full => Removed {
+                map: self,
+                answer: Taken::Nothing,
+            },
+            Place::Refused => Removed {
                 map: self,
                 answer: Taken::Refused,
-            };
-        }
-        match index::probe(words, n, key) {
-            Probe::At(c, s) => Removed {
-                map: self.shrunk(),
-                answer: Taken::Record(take(words, n, c, s)),
-            },
-            Probe::Free(_) => Removed {
-                map: self,
-                answer: Taken::Nothing,
-            },
-            Probe::Full => Removed {
-                map: self,
-                answer: Taken::Nothing,
             },
         }
     }
@@ -470,7 +546,8 @@ impl LinkedHashMap {
         }
     }
 
-    fn shrunk(self) -> LinkedHashMap
+    // The numbers with one record less.
+    pub fn shrunk(self) -> LinkedHashMap
         ensures { λ r. ⌜ r ≡ shrunkMap self ⌝ }
     {
         let len = if 0 < self.len { self.len - 1 } else { 0 };
