@@ -1,10 +1,12 @@
 // The recency list's calls. Each asks first whether it is refused, and then leaves the work to the map.
 ghost use mathlib.Core.Path.{_≡_};
+ghost use Rattle.linked_hash_map.specs.declared.map.Place.the-variants.{Free};
+ghost use Rattle.linked_hash_map.specs.Calls.{placeOf};
 ghost use Rattle.fast_lru.specs.Refusals.{outOfRange, admitted};
 ghost use Rattle.fast_lru.specs.Refusals as refusals;
-ghost use Rattle.fast_lru.specs.Model.{tell, valueIn};
+ghost use Rattle.fast_lru.specs.Model.{tell};
 ghost use Rattle.fast_lru.specs.Calls.{Opening, Clearing, Length, Emptiness, Capacity, Containing, Getting, Peeking, Inserting, Removing, Popping, PeekingOldest, Touching, Ranking, Checking};
-ghost use Rattle.fast_lru.specs.Steps.{isAt, taking, ValueAt, ItemAt, Picking, Choosing, Taking, PlacingFull, Placing, RankFrom, RankOf};
+ghost use Rattle.fast_lru.specs.Steps.{isAt, ValueAt, ItemAt, Picking, Choosing, Taking, PlacingFull, Placing, RankFrom, RankOf};
 use crate::answers::Count;
 use crate::answers::Found;
 use crate::answers::Got;
@@ -16,10 +18,10 @@ use crate::answers::Ranked;
 use crate::answers::Told;
 use crate::answers::Touched;
 use linked_hash_map::LinkedHashMap;
+use linked_hash_map::Place;
 use linked_hash_map::Placed;
 use linked_hash_map::Record;
 use linked_hash_map::Slot;
-use linked_hash_map::Taken;
 use time::Outcome;
 use time::Refusal;
 
@@ -51,17 +53,6 @@ fn is_slot(slot: Slot) -> Told
         Slot::At(_) => Told::Yes,
         Slot::Nothing => Told::No,
         Slot::Refused => Told::No,
-    }
-}
-
-// The value of a record that the map took out.
-fn value_of(taken: Taken) -> Found
-    ensures { λ r. ⌜ r ≡ valueIn (taking taken) ⌝ }
-{
-    match taken {
-        Taken::Record(old) => Found::Value(old.first),
-        Taken::Nothing => Found::Nothing,
-        Taken::Refused => Found::Nothing,
     }
 }
 
@@ -237,12 +228,38 @@ impl FastLru {
         }
     }
 
-    // The map says by one lookup whether the key is there, or else whether there is room.
+    // One lookup tells whether the key is there.
     fn place(self, words: &mut [u64], item: Record) -> Got
         ensures { λ r. ⌜ Placing (now (words .entry)) self item (now (words .exit)) r ⌝ }
     {
+        let map = self.map;
+        match map.seek(words, item.key) {
+            Place::At(_, s) => {
+                let old = map.replace_at(words, s, item);
+                Got {
+                    lru: self,
+                    answer: Found::Value(old.first),
+                }
+            }
+            Place::Free(c) => self.place_new(words, item, c),
+            Place::Full => Got {
+                lru: self.place_evicting(words, item),
+                answer: Found::Nothing,
+            },
+            Place::Refused => Got {
+                lru: self,
+                answer: Found::Nothing,
+            },
+        }
+    }
+
+    // The map says whether there is room.
+    fn place_new(self, words: &mut [u64], item: Record, c: usize) -> Got
+        requires { ⌜ placeOf (now words) (self .map) (item .key) ≡ Free c ⌝ }
+        ensures { λ r. ⌜ Placing (now (words .entry)) self item (now (words .exit)) r ⌝ }
+    {
         let held = self.map;
-        let put = held.put(words, item);
+        let put = held.insert_at(words, c, item);
         let map = put.map;
         let answer = put.answer;
         match answer {
@@ -321,13 +338,27 @@ impl FastLru {
                 answer: Found::Refused(why),
             },
             Outcome::Done => {
-                let held = self.map;
-                let removed = held.remove(words, key);
-                let map = removed.map;
-                let taken = removed.answer;
-                Got {
-                    lru: FastLru { map },
-                    answer: value_of(taken),
+                let map = self.map;
+                match map.seek(words, key) {
+                    Place::At(c, s) => {
+                        let old = map.take_at(words, c, s);
+                        Got {
+                            lru: FastLru { map: map.shrunk() },
+                            answer: Found::Value(old.first),
+                        }
+                    }
+                    Place::Free(_) => Got {
+                        lru: self,
+                        answer: Found::Nothing,
+                    },
+                    Place::Full => Got {
+                        lru: self,
+                        answer: Found::Nothing,
+                    },
+                    Place::Refused => Got {
+                        lru: self,
+                        answer: Found::Nothing,
+                    },
                 }
             }
         }

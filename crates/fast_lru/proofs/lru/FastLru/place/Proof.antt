@@ -1,6 +1,8 @@
--- The map's answer says which case of the definition it is; where it found no room it changed nothing.
+-- What the map does at the place is what its `put` does.
+use mathlib.Core.Path.{refl, sym, _∙_}
 use borrow.Author.Needs.{needs}
-use Rattle.fast_lru.proofs.Placing.{placing-new, placing-over, placing-evicting, placing-refused}
+use Rattle.linked_hash_map.proofs.Places.{put-full, put-refused}
+use Rattle.fast_lru.proofs.Placing.{placing-over, placing-evicting, placing-refused}
 use Rattle.fast_lru.proofs.lru.FastLru.place.Statement.{statement}
 use Rattle.fast_lru.proofs.lru.FastLru.place.Tie as tie
 
@@ -10,15 +12,17 @@ place-spec =
     (tie.spec
     (λ c κs. search needs)
     (λ c. search needs)
+    (λ c κs. search needs)
     (λ c. search needs)
+    (λ c κs. sym (c .before .before .before .before .seek .ensures) ∙ c .before .before .c .given .1)
     (λ c. search needs)
     (λ c κs. search needs)
     (λ c. search needs)
     (λ c. search needs)
-    (λ c. placing-new _ _ _ _ _ (c .before .before .before .before .before .put .ensures) (c .enum-told .given .1))
+    (λ c. placing-over _ _ _ _ _ (c .before .before .replace-at .ensures .put _ (sym (c .before .before .before .before .before .before .before .seek .ensures) ∙ c .before .before .before .before .before .s .given .1)) _ refl)
     (λ c. search needs)
-    (λ c. placing-over _ _ _ _ _ (c .before .before .before .before .before .before .put .ensures) _ (c .before .answer .given .1))
     (λ c. search needs)
-    (λ c. placing-evicting _ _ _ _ _ (c .before .before .before .before .before .before .before .before .before .put .ensures) _ _ (c .before .before .before .before .enum-told2 .given .1) (c .before .before .place-evicting .ensures))
     (λ c. search needs)
-    (λ c. placing-refused _ _ _ _ _ (c .before .before .before .before .before .put .ensures) (c .enum-told3 .given .1)))
+    (λ c. placing-evicting _ _ _ _ _ (put-full _ (sym (c .before .before .before .before .before .before .seek .ensures) ∙ c .before .before .before .before .enum-told .given .1)) _ _ refl (c .before .before .place-evicting .ensures))
+    (λ c. search needs)
+    (λ c. placing-refused _ _ _ _ _ (put-refused _ (sym (c .before .before .seek .ensures) ∙ c .enum-told2 .given .1)) refl))

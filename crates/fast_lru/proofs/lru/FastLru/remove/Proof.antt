@@ -1,5 +1,6 @@
-use mathlib.Core.Path.{sym, _∙_}
+use mathlib.Core.Path.{refl, sym, _∙_}
 use borrow.Author.Needs.{needs}
+use Rattle.linked_hash_map.proofs.Places.{remove-free, remove-full, remove-refused}
 use Rattle.fast_lru.proofs.Changing.{removing-refused, removing}
 use Rattle.fast_lru.proofs.lru.FastLru.remove.Statement.{statement}
 use Rattle.fast_lru.proofs.lru.FastLru.remove.Tie as tie
@@ -12,7 +13,18 @@ remove-spec =
     (λ c. search needs)
     (λ c. search needs)
     (λ c κs. search needs)
+    (λ c. search needs)
     (λ c κs. search needs)
+    (λ c κs. search needs)
+    (λ c. search needs)
+    (λ c. search needs)
+    (λ c. search needs)
     (λ c. removing-refused (sym (c .before .before .before .admitted .ensures) ∙ c .before .why .given .1) _)
     (λ c. search needs)
-    (λ c. let d = c .before .before .before .before .before .before .before in removing (sym (d .before .before .admitted .ensures) ∙ d .enum-told .given .1) _ _ _ _ (c .before .before .before .before .remove .ensures) (c .value-of .ensures)))
+    (λ c. rw (c .shrunk .ensures) (removing (sym (c .before .before .before .before .before .before .before .before .before .before .before .before .before .admitted .ensures) ∙ c .before .before .before .before .before .before .before .before .before .before .before .enum-told .given .1) _ _ _ _ (c .before .before .before .take-at .ensures .remove _ (sym (c .before .before .before .before .before .before .before .before .seek .ensures) ∙ c .before .before .before .before .before .before .c .given .1)) refl))
+    (λ c. search needs)
+    (λ c. removing (sym (c .before .before .before .before .before .before .before .admitted .ensures) ∙ c .before .before .before .before .before .enum-told .given .1) _ _ _ _ (remove-free _ (sym (c .before .before .seek .ensures) ∙ c .enum-told2 .given .1)) refl)
+    (λ c. search needs)
+    (λ c. removing (sym (c .before .before .before .before .before .before .before .admitted .ensures) ∙ c .before .before .before .before .before .enum-told .given .1) _ _ _ _ (remove-full _ (sym (c .before .before .seek .ensures) ∙ c .enum-told3 .given .1)) refl)
+    (λ c. search needs)
+    (λ c. removing (sym (c .before .before .before .before .before .before .before .admitted .ensures) ∙ c .before .before .before .before .before .enum-told .given .1) _ _ _ _ (remove-refused _ (sym (c .before .before .seek .ensures) ∙ c .enum-told4 .given .1)) refl))
