@@ -7,14 +7,15 @@ use native.Mathlib.Omega.{arith}
 use lib.ListN.{length, getD}
 use Rattle.binary_heap.specs.declared.entries.Entry.{Entry}
 use Rattle.binary_heap.specs.declared.heap.Popped.{Popped}
-use Rattle.binary_heap.specs.Order.{sort, Sorted, count}
+use Rattle.binary_heap.specs.Order.{sort, Sorted, count, atMost}
 use Rattle.binary_heap.specs.Entries.{entryAt, entriesOf}
 use Rattle.binary_heap.specs.Heap.{fit, parent, Ordered, IsHeap, modelOf}
 use Rattle.binary_heap.specs.Least.{Least}
-use Rattle.binary_heap.specs.Calls.{Popping}
+use Rattle.binary_heap.specs.Calls.{Popping, Counting}
 use Rattle.binary_heap.proofs.Order.{le-at}
 use Rattle.binary_heap.proofs.Words.{entry-kept}
 use Rattle.binary_heap.proofs.Places.{entries-length, entries-same, count-place, place-count}
+use Rattle.binary_heap.proofs.Limits.{room-fits}
 use Rattle.binary_heap.proofs.Least.{sort-least}
 -- lists of entries
 pub use Rattle.binary_heap.proofs.Order.{le-scores, le-same, le-then, le-total, le-both}
@@ -88,3 +89,7 @@ pop-length {ws} {ws′} {n} {r} p = go (fit n (length ws)) refl
     go : (b : Bool) → fit n (length ws) ≡ b → r .len ≤ n
     go true f = omega (arith, p .shorter f)
     go false f = omega (arith, ap (λ (x : Popped). x .len) (p .refused f .0))
+
+-- a heap is within the limits, so that its count is told
+pub heap-counted : {ws : List ℕ} {n s r : ℕ} → Counting ws n s r → IsHeap ws n → r ≡ atMost s (modelOf ws n)
+heap-counted c h = c .answer (room-fits (h .room))

@@ -10,5 +10,6 @@ pub mod Least
 pub mod Pushing
 pub mod Root
 pub mod Popping
+pub mod Counting
 pub mod Checking
 pub mod Laws

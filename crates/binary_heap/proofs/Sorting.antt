@@ -5,11 +5,11 @@ use mathlib.Core.Bool.{Bool, true, false, true≢false}
 use mathlib.Core.Logic.{_⊎_, inl, inr, ⊎-elim}
 use mathlib.Core.List.{List, [], _∷_, List·Memᴰ}
 use mathlib.Core.List.{List·Memᴰ·head as head, List·Memᴰ·cases-cons as cases-cons, List·Memᴰ·not-nil as not-nil}
-use Prim.Native.Nat.{_+_}
+use Prim.Native.Nat.{ℕ, _+_}
 use native.Mathlib.Omega.{arith}
 use lib.ListN.{length}
 use Rattle.binary_heap.specs.declared.entries.Entry.{Entry}
-use Rattle.binary_heap.specs.Order.{le, insert, sort, Sorted, is, count}
+use Rattle.binary_heap.specs.Order.{le, insert, sort, Sorted, is, count, isAtMost, atMost}
 use Rattle.binary_heap.proofs.Order.{le-same, le-then, le-total, le-both, le-at}
 use Rattle.binary_heap.proofs.Counts.{Is, same, other, which, is-same, mem-count, count-mem}
 
@@ -40,6 +40,15 @@ insert-count e x (y ∷ l) = go (le x y) refl (insert-count e x l)
     go : (b : Bool) → le x y ≡ b → count e (insert x l) ≡ is e x + count e l → count e (insert x (y ∷ l)) ≡ is e x + count e (y ∷ l)
     go true h ih = ap (count e) (insert-here x y l h)
     go false h ih = ap (count e) (insert-later x y l h) ∙ omega arith
+
+pub insert-at-most : (s : ℕ) (x : Entry) (l : List Entry) → atMost s (insert x l) ≡ isAtMost s x + atMost s l
+unfolding insert atMost
+insert-at-most s x [] = refl
+insert-at-most s x (y ∷ l) = go (le x y) refl (insert-at-most s x l)
+  where
+    go : (b : Bool) → le x y ≡ b → atMost s (insert x l) ≡ isAtMost s x + atMost s l → atMost s (insert x (y ∷ l)) ≡ isAtMost s x + atMost s (y ∷ l)
+    go true h ih = ap (atMost s) (insert-here x y l h)
+    go false h ih = ap (atMost s) (insert-later x y l h) ∙ omega arith
 
 module _ (e x : Entry) (l : List Entry) where
   pub insert-cases : List·Memᴰ e (insert x l) → (e ≡ x) ⊎ List·Memᴰ e l
@@ -115,6 +124,11 @@ pub sort-count : (e : Entry) (l : List Entry) → count e (sort l) ≡ count e l
 unfolding sort count
 sort-count e [] = refl
 sort-count e (x ∷ l) = omega (arith, insert-count e x (sort l), sort-count e l)
+
+pub sort-at-most : (s : ℕ) (l : List Entry) → atMost s (sort l) ≡ atMost s l
+unfolding sort atMost
+sort-at-most s [] = refl
+sort-at-most s (x ∷ l) = omega (arith, insert-at-most s x (sort l), sort-at-most s l)
 
 pub sort-sorted : (l : List Entry) → Sorted (sort l)
 unfolding sort Sorted

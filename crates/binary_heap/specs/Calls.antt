@@ -9,7 +9,7 @@ use Rattle.binary_heap.specs.declared.heap.Top.{Top}
 use Rattle.binary_heap.specs.declared.heap.Top.the-variants as top
 use Rattle.binary_heap.specs.declared.heap.Pushed.{Pushed}
 use Rattle.binary_heap.specs.declared.heap.Popped.{Popped}
-use Rattle.binary_heap.specs.Order.{insert}
+use Rattle.binary_heap.specs.Order.{insert, atMost}
 use Rattle.binary_heap.specs.Entries.{entryAt}
 use Rattle.binary_heap.specs.Heap.{fit, IsHeap, modelOf, first, rest}
 
@@ -45,6 +45,11 @@ pub record Reading (ws : List ℕ) (n i : ℕ) (r : Entry) : Type 0 where
   pub refused : fit n (length ws) ≡ false → r ≡ record { score = 0; seq = 0; key = 0 }
   pub past : n ≤ i → r ≡ record { score = 0; seq = 0; key = 0 }
   pub answer : fit n (length ws) ≡ true → i < n → r ≡ entryAt ws i
+
+-- `count_at_most`: how many have at most a score
+pub record Counting (ws : List ℕ) (n s r : ℕ) : Type 0 where
+  pub refused : fit n (length ws) ≡ false → r ≡ 0
+  pub answer : fit n (length ws) ≡ true → r ≡ atMost s (modelOf ws n)
 
 -- `is_heap`: yes exactly for a heap
 pub record Checking (ws : List ℕ) (n : ℕ) (r : Bool) : Type 0 where

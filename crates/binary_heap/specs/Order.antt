@@ -39,3 +39,12 @@ is e x = cond (eqb (e .score) (x .score) && (eqb (e .seq) (x .seq) && eqb (e .ke
 unfoldable pub count : Entry → List Entry → ℕ
 count e [] = 0
 count e (x ∷ l) = is e x + count e l
+
+-- 1 where an entry has at most a score, and else 0
+unfoldable pub isAtMost : ℕ → Entry → ℕ
+isAtMost s e = cond (leb (e .score) s) 1 0
+
+-- how many entries of a list have at most a score
+unfoldable pub atMost : ℕ → List Entry → ℕ
+atMost s [] = 0
+atMost s (e ∷ l) = isAtMost s e + atMost s l

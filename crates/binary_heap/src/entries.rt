@@ -2,7 +2,7 @@
 ghost use mathlib.Core.Path.{_≡_};
 ghost use Prim.Native.Nat.{_+_, _*_};
 ghost use lib.ListN.{length};
-ghost use Rattle.binary_heap.specs.Order.{le};
+ghost use Rattle.binary_heap.specs.Order.{le, isAtMost};
 ghost use Rattle.binary_heap.specs.Entries.{entryAt, putAt, swapAt, Holds};
 
 pub struct Entry {
@@ -68,4 +68,12 @@ pub fn in_order(words: &[u64], i: usize, j: usize) -> bool
         return a < b;
     }
     precedes(get(words, i), get(words, j))
+}
+
+// 1 where entry i has at most this score, and else 0. No other word is read.
+pub fn one_if_at_most(words: &[u64], i: usize, score: u64) -> usize
+    requires { ⌜ Holds (length (now words)) i ⌝ }
+    ensures { λ r. ⌜ r ≡ isAtMost score (entryAt (now (words .entry)) i) ⌝ }
+{
+    if words[3 * i] <= score { 1 } else { 0 }
 }

@@ -2,7 +2,7 @@
 ghost use mathlib.Core.Path.{_≡_};
 ghost use Prim.Native.Nat.{_+_};
 ghost use Rattle.binary_heap.specs.Heap.{fit};
-ghost use Rattle.binary_heap.specs.Calls.{Pushing, Peeking, Popping, Reading, Checking};
+ghost use Rattle.binary_heap.specs.Calls.{Pushing, Peeking, Popping, Reading, Counting, Checking};
 use crate::entries;
 use crate::entries::Entry;
 use crate::sifts;
@@ -119,6 +119,22 @@ pub fn entry_at(words: &[u64], len: usize, i: usize) -> Entry
         return none;
     }
     entries::get(words, i)
+}
+
+// How many entries have at most this score; 0 where the limits are not met.
+pub fn count_at_most(words: &[u64], len: usize, score: u64) -> usize
+    ensures { λ r. ⌜ Counting (now (words .entry)) len score r ⌝ }
+{
+    if !in_limits(len, words.len()) {
+        return 0;
+    }
+    let mut n = 0;
+    let mut i = 0;
+    while i < len {
+        n += entries::one_if_at_most(words, i, score);
+        i += 1;
+    }
+    n
 }
 
 // Whether the words hold a heap of len entries.

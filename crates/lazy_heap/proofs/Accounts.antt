@@ -1,61 +1,19 @@
 -- What is discarded and what is left is what there was, and what was pushed.
-use mathlib.Core.Path.{_≡_, refl, sym, ap, _∙_}
+use mathlib.Core.Path.{_≡_, refl, _∙_}
 use mathlib.Core.Bool.{Bool, true, false, cond}
-use mathlib.Core.List.{List, [], _∷_, List·Memᴰ}
-use mathlib.Core.List.{List·Memᴰ·head as head, List·Memᴰ·tail as tail}
+use mathlib.Core.List.{List, [], _∷_}
 use Prim.Native.Nat.{ℕ, _+_, _-_, _^_, _<_, _≤_}
 use native.Mathlib.Omega.{arith}
 use lib.Dec.{eqb}
 use lib.ListN.{length}
 use Rattle.binary_heap.specs.declared.entries.Entry.{Entry}
-use Rattle.binary_heap.specs.Order.{is, count}
-use Rattle.binary_heap.proofs.Counts.{Is, same, other, which}
-use Rattle.linked_hash_map.specs.declared.map.Record.{Record}
-use Rattle.linked_hash_map.specs.Model.{Distinct}
-use Rattle.lazy_heap_model.specs.Model.{Heap, entryOf, fromLive, surplus, tooMany, rebuilt, numbered, renumbered, maybeRebuilt, isFull, beforePush, pushed, updated, updateDiscards, peeked, popped, poppedFrom, stale}
+use Rattle.lazy_heap_model.specs.Model.{Heap, fromLive, surplus, tooMany, rebuilt, numbered, renumbered, maybeRebuilt, isFull, beforePush, pushed, updated, updateDiscards, peeked, popped, poppedFrom, stale}
 use Rattle.lazy_heap.specs.Valid.{Valid}
-use Rattle.lazy_heap.proofs.Helds.{missing-key}
-use Rattle.lazy_heap.proofs.Valid.{is-other, live-length, numbered-length, from-length, valid-pushed}
+use Rattle.lazy_heap.proofs.Valid.{live-length, numbered-length, from-length, valid-pushed}
+use Rattle.lazy_heap.proofs.Own.{live-fit}
 use Rattle.lazy_heap.proofs.Calling.{Fair}
 use Rattle.lazy_heap.proofs.Updating.{ready, room-without, push-length}
 
--- ---- there are as many entries as held keys, or more
-abbrev skip : Entry → Entry → ℕ → List Entry → List Entry → List Entry
-skip e x n l rest = cond (eqb n 1) l (x ∷ rest)
-
--- the entries without the first that is e
-less : Entry → List Entry → List Entry
-less e [] = []
-less e (x ∷ l) = skip e x (is e x) l (less e l)
-
-less-length : (e : Entry) (l : List Entry) → 0 < count e l → length (less e l) + 1 ≤ length l
-unfolding count less
-less-length e [] h = omega arith
-less-length e (x ∷ l) h = go (which e x) (less-length e l)
-  where
-    go : Is e x → (0 < count e l → length (less e l) + 1 ≤ length l) → length (skip e x (is e x) l (less e l)) + 1 ≤ length (x ∷ l)
-    go (same q o) ih = rw o (omega arith)
-    go (other d z) ih = rw z (omega (arith, ih (omega (arith, z))))
-
-less-count : (e y : Entry) → (y ≡ e → ⊥) → (l : List Entry) → count y (less e l) ≡ count y l
-unfolding count less
-less-count e y d [] = refl
-less-count e y d (x ∷ l) = go (which e x) (less-count e y d l)
-  where
-    go : Is e x → count y (less e l) ≡ count y l → count y (skip e x (is e x) l (less e l)) ≡ is y x + count y l
-    go (same q o) ih = rw o (let z : is y x ≡ 0 = is-other y x (λ w. d (w ∙ sym q)) in omega arith)
-    go (other n z) ih = rw z (ap (λ (c : ℕ). is y x + c) ih)
-
-held-fit : (held : List Record) (es : List Entry) → Distinct held → ((r : Record) → List·Memᴰ r held → count (entryOf r) es ≡ 1) → length held ≤ length es
-held-fit [] es d once = omega arith
-held-fit (r ∷ held) es d once =
-    let others : (q : Record) → List·Memᴰ q held → count (entryOf q) (less (entryOf r) es) ≡ 1 = λ q m. less-count (entryOf r) (entryOf q) (λ w. missing-key (r .key) held (d .0) q m (ap (λ (x : Entry). x .key) w)) es ∙ once q (tail m) in
-    omega (arith, held-fit held (less (entryOf r) es) (d .1) others, less-length (entryOf r) es (omega (arith, once r (head refl))))
-
-pub live-fit : (m : Heap) → Valid m → length (m .held) ≤ length (m .entries)
-live-fit m v = held-fit (m .held) (m .entries) (v .keys) (v .once)
-
--- ---- the calls
 pub rebuilt-accounts : (m : Heap) → Valid m → surplus m + length (rebuilt m .entries) ≡ length (m .entries)
 unfolding rebuilt
 rebuilt-accounts m v = omega (arith, live-fit m v, live-length (m .held))

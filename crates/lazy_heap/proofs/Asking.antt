@@ -22,8 +22,11 @@ use Rattle.lazy_heap.specs.Words.{part, limitsOf}
 use Rattle.lazy_heap_model.specs.Model.{Heap, entryOf, len, heapLen, countAtMost, atMost}
 use Rattle.lazy_heap.specs.Valid.{Valid}
 use Rattle.lazy_heap.specs.Heap.{modelOf}
+use Rattle.lazy_heap.specs.Steps.{CountingEntries}
+use Rattle.lazy_heap.specs.Walks.{CountingWithin}
 use Rattle.lazy_heap.specs.Calls.{Asking, AskingEmpty}
 use Rattle.lazy_heap.proofs.Valid.{sorted-cons}
+use Rattle.lazy_heap.proofs.Own.{live-at-most}
 use Rattle.lazy_heap.proofs.Calling.{no-heap}
 
 -- ---- no key holds at most a score
@@ -51,6 +54,12 @@ module _ (m : Heap) (v : Valid m) (s : ℕ) where
 
 -- ---- the answers
 module _ {ws : List ℕ} {h : LazyMinHeap} where
+  -- where there are as many entries as keys the entries tell
+  pub counting-entries : h .entries ≡ h .scores .len → {s r : ℕ} → CountingEntries ws h s r → CountingWithin ws h s r
+  counting-entries e {s} c = record {
+    answer = λ p v. c .answer p ∙ live-at-most (modelOf ws h) v s (array-length (part (h .scores .capacity) ws) (h .entries) ∙ e ∙ sym (model-length ws (h .scores)));
+  }
+
   pub asking-refused : {value : Heap → ℕ} {why : Refusal} → limitsOf (h .scores .capacity) (length ws) ≡ Refused why → Asking ws h value (number.Refused why)
   asking-refused e = record { outcome = sym e; answer = λ is. absurd (no-heap e is) }
 

@@ -28,8 +28,10 @@ use Rattle.lazy_heap.proofs.Valid.{live-length, sorted-from, sorted-con
 use Rattle.lazy_heap.proofs.Stepping.{same-heap}
 -- a heap is within its limits, and its model keeps what every heap's does
 pub use Rattle.lazy_heap.proofs.Calling.{limits-room, room-limits, with-room, Fair, fair-heap}
+-- as many entries as held keys, or more
+pub use Rattle.lazy_heap.proofs.Own.{live-fit}
 -- entries discarded and entries left are entries there were, and one more for an update
-pub use Rattle.lazy_heap.proofs.Accounts.{live-fit, rebuilt-accounts, renumbered-accounts, maybe-rebuilt-accounts, cleared-accounts, peeked-accounts, popped-accounts, updated-accounts}
+pub use Rattle.lazy_heap.proofs.Accounts.{rebuilt-accounts, renumbered-accounts, maybe-rebuilt-accounts, cleared-accounts, peeked-accounts, popped-accounts, updated-accounts}
 -- no two entries share a sequence number, whatever is called
 pub use Rattle.lazy_heap.proofs.Numbers.{different-none, different-rebuilt, different-renumbered, different-maybe-rebuilt, different-updated, different-removed, different-peeked, different-popped}
 

@@ -1,5 +1,6 @@
 pub mod Helds
 pub mod Valid
+pub mod Own
 pub mod Parts
 pub mod Entered
 pub mod Settling

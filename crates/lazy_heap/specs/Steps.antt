@@ -9,7 +9,7 @@ use lib.ListN.{length, getD}
 use Rattle.binary_heap.specs.declared.entries.Entry.{Entry}
 use Rattle.binary_heap.specs.declared.heap.Top.{Top}
 use Rattle.binary_heap.specs.declared.heap.Top.the-variants as top
-use Rattle.binary_heap.specs.Order.{insert}
+use Rattle.binary_heap.specs.Order.{insert, atMost}
 use Rattle.binary_heap.specs.Heap.{first, rest}
 use Rattle.linked_hash_map.specs.declared.map.Slot.{Slot}
 use Rattle.linked_hash_map.specs.declared.map.Slot.the-variants as slot
@@ -75,6 +75,10 @@ pub record Taking (ws : List ℕ) (h : LazyMinHeap) (k : ℕ) (ws′ : List ℕ)
 -- `top`
 pub record Peeking (ws : List ℕ) (h : LazyMinHeap) (r : Top) : Type 0 where
   pub answer : Parts ws h → r ≡ first (entriesOf ws h)
+
+-- `count_entries`
+pub record CountingEntries (ws : List ℕ) (h : LazyMinHeap) (score r : ℕ) : Type 0 where
+  pub answer : Parts ws h → r ≡ atMost score (entriesOf ws h)
 
 -- `is_live`
 pub record Living (ws : List ℕ) (h : LazyMinHeap) (e : Entry) (r : Bool) : Type 0 where

@@ -5,7 +5,7 @@ ghost use lib.ListN.{length};
 ghost use Rattle.lazy_heap.specs.Words.{limitsOf, limitsWith, Room};
 ghost use Rattle.lazy_heap_model.specs.Model.{atLeastOne, heldScore, factorOf, len, heapLen, atMost};
 ghost use Rattle.lazy_heap.specs.Calls.{Opening, Resetting, Asking, AskingEmpty, Scoring, Removing, PeekingBest, PoppingBest, PoppingAtMost, RebuildingNow, RebuildingMaybe, RenumberingNow, Clearing, Updating, Checking};
-ghost use Rattle.lazy_heap.specs.Steps.{bestOf, Adding, Filling, after, replacedScore, Crowding, Living, Pushing, Popping, Peeking, Taking, Settled, Discarding, Rebuilding, Numbered, Renumbering, Fitting, Trimming, Holding};
+ghost use Rattle.lazy_heap.specs.Steps.{bestOf, Adding, Filling, after, replacedScore, Crowding, Living, Pushing, Popping, Peeking, CountingEntries, Taking, Settled, Discarding, Rebuilding, Numbered, Renumbering, Fitting, Trimming, Holding};
 ghost use Rattle.lazy_heap.specs.Walks.{CountingWithin, Sound, Agreeing};
 use crate::walks;
 use crate::walks::slot_number;
@@ -561,6 +561,17 @@ impl LazyMinHeap {
         binary_heap::peek(&words[start..end], self.entries)
     }
 
+    // How many entries have at most this score, stale ones included.
+    fn count_entries(self, words: &[u64], score: u64) -> usize
+        requires { ⌜ Room (length (now words)) (self .scores .capacity) ⌝ }
+        ensures { λ r. ⌜ CountingEntries (now (words .entry)) self score r ⌝ }
+    {
+        let n = self.scores.capacity;
+        let start = 8 * n + 58;
+        let end = 64 + 32 * n;
+        binary_heap::count_at_most(&words[start..end], self.entries, score)
+    }
+
     // Whether an entry's score and number are those that its key holds.
     fn is_live(self, words: &[u64], entry: Entry) -> bool
         ensures { λ r. ⌜ Living (now (words .entry)) self entry r ⌝ }
@@ -603,7 +614,8 @@ impl LazyMinHeap {
     }
 
     // How many keys hold at most this score. Each has an entry, and no entry's score is below that of the first, live or
-    // stale: where that is above this one the answer is 0, without a walk.
+    // stale: where that is above this one the answer is 0, without a walk. Where there are as many entries as keys none is
+    // stale, and the entries are counted: they stand side by side, while the keys are links apart.
     fn count_within(self, words: &[u64], score: u64) -> usize
         requires { ⌜ Room (length (now words)) (self .scores .capacity) ⌝ }
         ensures { λ r. ⌜ CountingWithin (now (words .entry)) self score r ⌝ }
@@ -612,6 +624,9 @@ impl LazyMinHeap {
             Top::Entry(e) => {
                 if score < e.score {
                     return 0;
+                }
+                if self.entries == self.scores.len {
+                    return self.count_entries(words, score);
                 }
                 walks::count_at_most(words, self.scores, score)
             }

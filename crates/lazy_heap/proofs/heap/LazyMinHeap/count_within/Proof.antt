@@ -1,7 +1,7 @@
 use mathlib.Core.Path.{sym, _∙_}
 use native.Mathlib.Omega.{arith}
 use borrow.Author.Needs.{needs}
-use Rattle.lazy_heap.proofs.Asking.{none-above, first-above}
+use Rattle.lazy_heap.proofs.Asking.{none-above, first-above, counting-entries}
 use Rattle.lazy_heap.proofs.Best.{first-none, first-some}
 use Rattle.lazy_heap.proofs.heap.LazyMinHeap.count_within.Statement.{statement}
 use Rattle.lazy_heap.proofs.heap.LazyMinHeap.count_within.Tie as tie
@@ -13,6 +13,8 @@ count-within-spec =
     (λ c κs. search needs)
     (λ c. search needs)
     (λ c. let e = c .before .before .before in let t = e .before .before in record { answer = λ p v. sym (first-above _ v (t .before .before .args .score) _ _ (first-some _ _ (sym (t .top .ensures .answer p) ∙ e .e .given .1)) (omega arith)) })
+    (λ c κs. search needs)
+    (λ c. counting-entries (omega arith) (c .count-entries .ensures))
     (λ c κs. search needs)
     (λ c. search needs)
     (λ c. record { answer = λ p v. c .count-at-most .ensures .answer (p .scores) })
