@@ -120,8 +120,8 @@ taking {ws} {ws₁} {ws′} {h} {h₁} {k} {r} pop out = record {
   parts = λ p. remove-parts h₁ k out (pop .parts p);
   model = λ p. remove-model h₁ k out (pop .parts p) ∙ ap (removed k) (same-heap (same-capacity (pop .entered .scores)) (pop .entered .factor) (pop .entered .seq) (pop .entered .held p) (pop .entries p));
   kept =
-    let k = remove-kept h₁ k out in
-    record { size = k .size ∙ pop .entered .kept .size; past = λ j b. k .past j (rw (same-capacity (pop .entered .scores)) b) ∙ pop .entered .kept .past j b };
+      let k = remove-kept h₁ k out in
+      record { size = k .size ∙ pop .entered .kept .size; past = λ j b. k .past j (rw (same-capacity (pop .entered .scores)) b) ∙ pop .entered .kept .past j b };
 }
 
 -- ---- `pop_at_most`: as `pop_best` where the best has at most the score, as `peek_best` where it has not

@@ -14,13 +14,17 @@ use Rattle.binary_heap.specs.Heap.{first, rest}
 use Rattle.linked_hash_map.specs.declared.map.Slot.{Slot}
 use Rattle.linked_hash_map.specs.declared.map.Slot.the-variants as slot
 use Rattle.linked_hash_map.specs.declared.map.LinkedHashMap.{LinkedHashMap}
+use Rattle.linked_hash_map.specs.declared.map.Record.{Record}
+use Rattle.linked_hash_map.specs.declared.map.Put.{Put}
 use Rattle.linked_hash_map.specs.declared.map.Placed.{Placed}
 use Rattle.linked_hash_map.specs.declared.map.Placed.the-variants as placed
 use Rattle.linked_hash_map.specs.Model.{lookup}
 use Rattle.linked_hash_map.specs.Map.{slotAt}
 use Rattle.linked_hash_map.specs.Map as map
+use Rattle.linked_hash_map.specs.Calls.{Putting}
 use Rattle.lazy_heap.specs.declared.heap.LazyMinHeap.{LazyMinHeap}
 use Rattle.lazy_heap.specs.declared.heap.Step.{Step}
+use Rattle.lazy_heap.specs.declared.heap.Stored.{Stored}
 use Rattle.lazy_heap.specs.declared.heap.Held.{Held}
 use Rattle.lazy_heap_model.specs.declared.scores.Score.{Score}
 use Rattle.lazy_heap_model.specs.declared.scores.Score.the-variants as score
@@ -111,6 +115,13 @@ replacedScore (placed.Replaced r) = score.Value (r .first)
 replacedScore placed.Inserted = score.Nothing
 replacedScore placed.Full = score.Nothing
 replacedScore placed.Refused = score.Nothing
+
+-- `store`
+pub record Storing (ws : List ℕ) (m : LinkedHashMap) (x : Record) (ws′ : List ℕ) (r : Stored) : Type 0 where
+  pub put : Put
+  pub putting : Putting ws m x ws′ put
+  pub scores : r .scores ≡ put .map
+  pub answer : r .answer ≡ replacedScore (put .answer)
 
 -- `too_many`
 pub record Crowding (f e k : ℕ) (r : Bool) : Type 0 where

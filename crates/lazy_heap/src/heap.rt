@@ -3,9 +3,9 @@ ghost use mathlib.Core.Path.{_≡_};
 ghost use Prim.Native.Nat.{_-_};
 ghost use lib.ListN.{length};
 ghost use Rattle.lazy_heap.specs.Words.{limitsOf, limitsWith, Room};
-ghost use Rattle.lazy_heap_model.specs.Model.{atLeastOne, heldScore, factorOf, len, heapLen, atMost};
+ghost use Rattle.lazy_heap_model.specs.Model.{atLeastOne, factorOf, len, heapLen, atMost};
 ghost use Rattle.lazy_heap.specs.Calls.{Opening, Resetting, Asking, AskingEmpty, Scoring, Removing, PeekingBest, PoppingBest, PoppingAtMost, RebuildingNow, RebuildingMaybe, RenumberingNow, Clearing, Updating, Checking};
-ghost use Rattle.lazy_heap.specs.Steps.{bestOf, Adding, Filling, after, replacedScore, Crowding, Living, Pushing, Popping, Peeking, CountingEntries, Taking, Settled, Discarding, Rebuilding, Numbered, Renumbering, Fitting, Trimming, Holding};
+ghost use Rattle.lazy_heap.specs.Steps.{bestOf, Adding, Filling, after, replacedScore, Storing, Crowding, Living, Pushing, Popping, Peeking, CountingEntries, Taking, Settled, Discarding, Rebuilding, Numbered, Renumbering, Fitting, Trimming, Holding};
 ghost use Rattle.lazy_heap.specs.Walks.{CountingWithin, Sound, Agreeing};
 use crate::walks;
 use crate::walks::slot_number;
@@ -14,10 +14,10 @@ use binary_heap::Top;
 use lazy_heap_model::Best;
 use lazy_heap_model::Score;
 use linked_hash_map::LinkedHashMap;
+use linked_hash_map::Place;
 use linked_hash_map::Placed;
 use linked_hash_map::Record;
 use linked_hash_map::Slot;
-use linked_hash_map::Taken;
 use time::Outcome;
 use time::Refusal;
 
@@ -68,6 +68,12 @@ pub struct Stepped {
 struct Step {
     heap: LazyMinHeap,
     discarded: usize,
+}
+
+// The scores after one was stored, and the key's old one.
+struct Stored {
+    scores: LinkedHashMap,
+    answer: Score,
 }
 
 // A heap after a key was set, and the score that it held before.
@@ -144,6 +150,38 @@ fn replaced_score(placed: Placed) -> Score
     }
 }
 
+// What `put` does, told by the score that it replaces.
+fn store(scores: LinkedHashMap, words: &mut [u64], item: Record) -> Stored
+    ensures { λ r. ⌜ Storing (now (words .entry)) scores item (now (words .exit)) r ⌝ }
+{
+    match scores.seek(words, item.key) {
+        Place::At(_, s) => {
+            let old = scores.replace_at(words, s, item);
+            Stored {
+                scores,
+                answer: Score::Value(old.first),
+            }
+        }
+        Place::Free(c) => {
+            let put = scores.insert_at(words, c, item);
+            let map = put.map;
+            let placed = put.answer;
+            Stored {
+                scores: map,
+                answer: replaced_score(placed),
+            }
+        }
+        Place::Full => Stored {
+            scores,
+            answer: Score::Nothing,
+        },
+        Place::Refused => Stored {
+            scores,
+            answer: Score::Nothing,
+        },
+    }
+}
+
 // The sum of two counts. (No heap has counts whose sum is beyond a word.)
 fn sum(a: usize, b: usize) -> usize
     ensures { λ r. ⌜ Adding a b r ⌝ }
@@ -154,16 +192,6 @@ fn sum(a: usize, b: usize) -> usize
         }
     }
     0
-}
-
-fn taken_score(taken: Taken) -> Score
-    ensures { λ r. ⌜ r ≡ heldScore taken ⌝ }
-{
-    match taken {
-        Taken::Record(r) => Score::Value(r.first),
-        Taken::Nothing => Score::Nothing,
-        Taken::Refused => Score::Nothing,
-    }
 }
 
 fn best_of(top: Top) -> Best
@@ -767,7 +795,8 @@ impl LazyMinHeap {
         ensures { λ r. ⌜ Holding (now (words .entry)) self key score (now (words .exit)) r ⌝ }
     {
         let seq = self.seq;
-        let put = self.scores.put(
+        let stored = store(
+            self.scores,
             words,
             Record {
                 key,
@@ -775,17 +804,17 @@ impl LazyMinHeap {
                 second: seq,
             },
         );
-        let scores = put.map;
+        let scores = stored.scores;
+        let answer = stored.answer;
         let heap = LazyMinHeap {
             scores,
             entries: self.entries,
             seq: number_after(seq),
             factor: self.factor,
         };
-        let placed = put.answer;
         Held {
             heap: heap.push(words, Entry { score, seq, key }),
-            answer: replaced_score(placed),
+            answer,
         }
     }
 
@@ -848,18 +877,36 @@ impl LazyMinHeap {
         requires { ⌜ Room (length (now words)) (self .scores .capacity) ⌝ }
         ensures { λ r. ⌜ Removing (now (words .entry)) self key (now (words .exit)) r ⌝ }
     {
-        let removed = self.scores.remove(words, key);
-        let scores = removed.map;
-        let taken = removed.answer;
-        Updated {
-            heap: LazyMinHeap {
-                scores,
-                entries: self.entries,
-                seq: self.seq,
-                factor: self.factor,
+        let scores = self.scores;
+        match scores.seek(words, key) {
+            Place::At(c, s) => {
+                let old = scores.take_at(words, c, s);
+                Updated {
+                    heap: LazyMinHeap {
+                        scores: scores.shrunk(),
+                        entries: self.entries,
+                        seq: self.seq,
+                        factor: self.factor,
+                    },
+                    answer: Score::Value(old.first),
+                    discarded: 0,
+                }
+            }
+            Place::Free(_) => Updated {
+                heap: self,
+                answer: Score::Nothing,
+                discarded: 0,
             },
-            answer: taken_score(taken),
-            discarded: 0,
+            Place::Full => Updated {
+                heap: self,
+                answer: Score::Nothing,
+                discarded: 0,
+            },
+            Place::Refused => Updated {
+                heap: self,
+                answer: Score::Nothing,
+                discarded: 0,
+            },
         }
     }
 
@@ -932,13 +979,20 @@ impl LazyMinHeap {
         ensures { λ r. ⌜ Taking (now (words .entry)) self key (now (words .exit)) r ⌝ }
     {
         let heap = self.pop(words);
-        let removed = heap.scores.remove(words, key);
-        let scores = removed.map;
-        LazyMinHeap {
-            scores,
-            entries: heap.entries,
-            seq: heap.seq,
-            factor: heap.factor,
+        let scores = heap.scores;
+        match scores.seek(words, key) {
+            Place::At(c, s) => {
+                scores.take_at(words, c, s);
+                LazyMinHeap {
+                    scores: scores.shrunk(),
+                    entries: heap.entries,
+                    seq: heap.seq,
+                    factor: heap.factor,
+                }
+            }
+            Place::Free(_) => heap,
+            Place::Full => heap,
+            Place::Refused => heap,
         }
     }
 }

@@ -123,9 +123,9 @@ module _ (ws : List ℕ) (m : LinkedHashMap) where
   inserting-at c x {ws′} {r} b ins = record {
     put = λ e. let o = free-place ws m (x .key) e in putting-free ws m x c (o .fits) (o .at) ws′ r ins;
     kept =
-      by-lt (ring.next ws (m .capacity + 1)) (m .capacity)
-      (λ h. kept-then (kept-put (m .capacity) ws c (ring.next ws (m .capacity + 1)) x b h) (grown-kept (putIn ws (m .capacity) c (ring.next ws (m .capacity + 1)) x) m (lenAfter m) ws′ (r .map) (ins .grown h)))
-      (λ h. rw (ins .full h .1) (kept-same (m .capacity) ws));
+        by-lt (ring.next ws (m .capacity + 1)) (m .capacity)
+        (λ h. kept-then (kept-put (m .capacity) ws c (ring.next ws (m .capacity + 1)) x b h) (grown-kept (putIn ws (m .capacity) c (ring.next ws (m .capacity + 1)) x) m (lenAfter m) ws′ (r .map) (ins .grown h)))
+        (λ h. rw (ins .full h .1) (kept-same (m .capacity) ws));
   }
 
   -- a slot or a cell that is no key's: there is no room, or it is past the last

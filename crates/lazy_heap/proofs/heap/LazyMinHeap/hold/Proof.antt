@@ -9,7 +9,6 @@ hold-spec =
     (tie.spec
     (λ c κs. search needs)
     (λ c κs. search needs)
-    (λ c κs. search needs)
-    (λ c κs. search needs)
+    (λ c κs. let o = c .before .before .before .before .before .store .ensures in rw (o .scores, o .putting .capacity, o .putting .kept .size) (c .before .before .before .before .before .before .before .before .pre))
     (λ c. search needs)
-    (λ c. let u = c .before .before .before in let v = u .before .before in let q = c .before .before .before .before .before .before .before .before .before in holding _ (q .put .ensures) (rw (v .number-after .ensures) at (u .push .ensures)) (c .replaced-score .ensures)))
+    (λ c. let o = c .before .before .before .before .before .before .before .before .store .ensures in holding _ (o .putting) (rw (c .before .before .before .before .number-after .ensures, o .scores) at (c .before .before .push .ensures)) (o .answer)))

@@ -1,4 +1,6 @@
+use mathlib.Core.Path.{refl, sym, _∙_}
 use borrow.Author.Needs.{needs}
+use Rattle.linked_hash_map.proofs.Places.{remove-free, remove-full, remove-refused}
 use Rattle.lazy_heap.proofs.Calling.{removing}
 use Rattle.lazy_heap.proofs.heap.LazyMinHeap.remove_within.Statement.{statement}
 use Rattle.lazy_heap.proofs.heap.LazyMinHeap.remove_within.Tie as tie
@@ -8,6 +10,17 @@ remove-within-spec =
     tie.close
     (tie.spec
     (λ c κs. search needs)
+    (λ c. search needs)
+    (λ c κs. search needs)
     (λ c κs. search needs)
     (λ c. search needs)
-    (λ c. removing _ _ (c .before .before .before .before .remove .ensures) (c .taken-score .ensures) (c .before .before .before .before .before .before .before .pre)))
+    (λ c. search needs)
+    (λ c. search needs)
+    (λ c. search needs)
+    (λ c. rw (c .shrunk .ensures) (removing _ _ (c .before .before .before .take-at .ensures .remove _ (sym (c .before .before .before .before .before .before .before .before .seek .ensures) ∙ c .before .before .before .before .before .before .c .given .1)) refl (c .before .before .before .before .before .before .before .before .before .before .before .before .pre)))
+    (λ c. search needs)
+    (λ c. removing _ _ (remove-free _ (sym (c .before .before .seek .ensures) ∙ c .enum-told .given .1)) refl (c .before .before .before .before .before .before .pre))
+    (λ c. search needs)
+    (λ c. removing _ _ (remove-full _ (sym (c .before .before .seek .ensures) ∙ c .enum-told2 .given .1)) refl (c .before .before .before .before .before .before .pre))
+    (λ c. search needs)
+    (λ c. removing _ _ (remove-refused _ (sym (c .before .before .seek .ensures) ∙ c .enum-told3 .given .1)) refl (c .before .before .before .before .before .before .pre)))
