@@ -1,7 +1,5 @@
 // The recency list's calls. Each asks first whether it is refused, and then leaves the work to the map.
 ghost use mathlib.Core.Path.{_≡_};
-ghost use Rattle.linked_hash_map.specs.declared.map.Place.the-variants.{Free};
-ghost use Rattle.linked_hash_map.specs.Calls.{placeOf};
 ghost use Rattle.fast_lru.specs.Refusals.{outOfRange, admitted};
 ghost use Rattle.fast_lru.specs.Refusals as refusals;
 ghost use Rattle.fast_lru.specs.Model.{tell};
@@ -19,7 +17,6 @@ use crate::answers::Told;
 use crate::answers::Touched;
 use linked_hash_map::LinkedHashMap;
 use linked_hash_map::Place;
-use linked_hash_map::Placed;
 use linked_hash_map::Record;
 use linked_hash_map::Slot;
 use time::Outcome;
@@ -228,7 +225,7 @@ impl FastLru {
         }
     }
 
-    // One lookup tells whether the key is there.
+    // One lookup tells whether the key is there, and where it goes if not.
     fn place(self, words: &mut [u64], item: Record) -> Got
         ensures { λ r. ⌜ Placing (now (words .entry)) self item (now (words .exit)) r ⌝ }
     {
@@ -241,41 +238,25 @@ impl FastLru {
                     answer: Found::Value(old.first),
                 }
             }
-            Place::Free(c) => self.place_new(words, item, c),
+            Place::Free(c) => {
+                if map.len < map.capacity {
+                    return Got {
+                        lru: FastLru {
+                            map: map.insert_at(words, c, item),
+                        },
+                        answer: Found::Nothing,
+                    };
+                }
+                Got {
+                    lru: self.place_evicting(words, item),
+                    answer: Found::Nothing,
+                }
+            }
             Place::Full => Got {
                 lru: self.place_evicting(words, item),
                 answer: Found::Nothing,
             },
             Place::Refused => Got {
-                lru: self,
-                answer: Found::Nothing,
-            },
-        }
-    }
-
-    // The map says whether there is room.
-    fn place_new(self, words: &mut [u64], item: Record, c: usize) -> Got
-        requires { ⌜ placeOf (now words) (self .map) (item .key) ≡ Free c ⌝ }
-        ensures { λ r. ⌜ Placing (now (words .entry)) self item (now (words .exit)) r ⌝ }
-    {
-        let held = self.map;
-        let put = held.insert_at(words, c, item);
-        let map = put.map;
-        let answer = put.answer;
-        match answer {
-            Placed::Inserted => Got {
-                lru: FastLru { map },
-                answer: Found::Nothing,
-            },
-            Placed::Replaced(old) => Got {
-                lru: FastLru { map },
-                answer: Found::Value(old.first),
-            },
-            Placed::Full => Got {
-                lru: self.place_evicting(words, item),
-                answer: Found::Nothing,
-            },
-            Placed::Refused => Got {
                 lru: self,
                 answer: Found::Nothing,
             },

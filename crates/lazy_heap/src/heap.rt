@@ -5,7 +5,7 @@ ghost use lib.ListN.{length};
 ghost use Rattle.lazy_heap.specs.Words.{limitsOf, limitsWith, Room};
 ghost use Rattle.lazy_heap_model.specs.Model.{atLeastOne, factorOf, len, heapLen, atMost};
 ghost use Rattle.lazy_heap.specs.Calls.{Opening, Resetting, Asking, AskingEmpty, Scoring, Removing, PeekingBest, PoppingBest, PoppingAtMost, RebuildingNow, RebuildingMaybe, RenumberingNow, Clearing, Updating, Checking};
-ghost use Rattle.lazy_heap.specs.Steps.{bestOf, Adding, Filling, after, replacedScore, Storing, Crowding, Living, Pushing, Popping, Peeking, CountingEntries, Taking, Settled, Discarding, Rebuilding, Numbered, Renumbering, Fitting, Trimming, Holding};
+ghost use Rattle.lazy_heap.specs.Steps.{bestOf, Adding, Filling, after, Storing, Crowding, Living, Pushing, Popping, Peeking, CountingEntries, Taking, Settled, Discarding, Rebuilding, Numbered, Renumbering, Fitting, Trimming, Holding};
 ghost use Rattle.lazy_heap.specs.Walks.{CountingWithin, Sound, Agreeing};
 use crate::walks;
 use crate::walks::slot_number;
@@ -15,7 +15,6 @@ use lazy_heap_model::Best;
 use lazy_heap_model::Score;
 use linked_hash_map::LinkedHashMap;
 use linked_hash_map::Place;
-use linked_hash_map::Placed;
 use linked_hash_map::Record;
 use linked_hash_map::Slot;
 use time::Outcome;
@@ -139,17 +138,6 @@ fn too_many(factor: usize, entries: usize, held: usize) -> bool
     at_least_one(factor) * held < entries
 }
 
-fn replaced_score(placed: Placed) -> Score
-    ensures { λ r. ⌜ r ≡ replacedScore placed ⌝ }
-{
-    match placed {
-        Placed::Replaced(r) => Score::Value(r.first),
-        Placed::Inserted => Score::Nothing,
-        Placed::Full => Score::Nothing,
-        Placed::Refused => Score::Nothing,
-    }
-}
-
 // What `put` does, told by the score that it replaces.
 fn store(scores: LinkedHashMap, words: &mut [u64], item: Record) -> Stored
     ensures { λ r. ⌜ Storing (now (words .entry)) scores item (now (words .exit)) r ⌝ }
@@ -163,12 +151,15 @@ fn store(scores: LinkedHashMap, words: &mut [u64], item: Record) -> Stored
             }
         }
         Place::Free(c) => {
-            let put = scores.insert_at(words, c, item);
-            let map = put.map;
-            let placed = put.answer;
+            if scores.len < scores.capacity {
+                return Stored {
+                    scores: scores.insert_at(words, c, item),
+                    answer: Score::Nothing,
+                };
+            }
             Stored {
-                scores: map,
-                answer: replaced_score(placed),
+                scores,
+                answer: Score::Nothing,
             }
         }
         Place::Full => Stored {

@@ -14,7 +14,6 @@ use Rattle.cells.specs.Probe.{probe}
 use Rattle.cells.proofs.Probing.{at-found, free-vacant}
 use Rattle.linked_hash_map.specs.declared.map.LinkedHashMap.{LinkedHashMap}
 use Rattle.linked_hash_map.specs.declared.map.Record.{Record}
-use Rattle.linked_hash_map.specs.declared.map.Put.{Put}
 use Rattle.linked_hash_map.specs.declared.map.Place.{Place}
 use Rattle.linked_hash_map.specs.declared.map.Place.the-variants as place
 use Rattle.linked_hash_map.specs.declared.map.Placed.the-variants as placed
@@ -24,7 +23,7 @@ use Rattle.linked_hash_map.specs.Numbers.{lenAfter, Inserting}
 use Rattle.linked_hash_map.specs.Calls.{placeFrom, placeOf, ReplacingAt, InsertingAt, TakingAt, Putting, Removing}
 use Rattle.linked_hash_map.proofs.Keeping.{kept-same, kept-then, kept-replaced, kept-taken, kept-put}
 use Rattle.linked_hash_map.proofs.Probed.{free-not-at, full-not-at}
-use Rattle.linked_hash_map.proofs.Putting.{removing-refused, removing-none, removing-at, putting-refused, putting-crowded, putting-at, putting-free, grown-kept}
+use Rattle.linked_hash_map.proofs.Putting.{removing-refused, removing-none, removing-at, putting-refused, putting-crowded, putting-at, putting-full, putting-free, grown-kept}
 
 module _ (ws : List ℕ) (m : LinkedHashMap) (k : ℕ) where
   pub place-refused : fit (m .capacity) (length ws) ≡ false → place.Refused ≡ placeOf ws m k
@@ -90,6 +89,9 @@ module _ (ws : List ℕ) (m : LinkedHashMap) (k : ℕ) where
 
 -- ---- where nothing goes on
 module _ {ws : List ℕ} {m : LinkedHashMap} where
+  pub put-over : (x : Record) {c : ℕ} → placeOf ws m (x .key) ≡ place.Free c → m .capacity ≤ m .len → Putting ws m x ws (record { map = m; answer = placed.Full })
+  put-over x e h = let o = free-place ws m (x .key) e in putting-full ws m x _ (o .fits) (o .at) h
+
   pub put-full : (x : Record) → placeOf ws m (x .key) ≡ place.Full → Putting ws m x ws (record { map = m; answer = placed.Full })
   put-full x e = let o = full-place ws m (x .key) e in putting-crowded x (o .fits) (o .at)
 
@@ -119,13 +121,17 @@ module _ (ws : List ℕ) (m : LinkedHashMap) where
     kept = kept-taken (m .capacity) ws c s b;
   }
 
-  pub inserting-at : (c : ℕ) (x : Record) {ws′ : List ℕ} {r : Put} → c < cellCount (m .capacity) → Inserting ws m x c ws′ r → InsertingAt ws m c x ws′ r
+  pub inserting-at : (c : ℕ) (x : Record) {ws′ : List ℕ} {r : LinkedHashMap} → c < cellCount (m .capacity) → Inserting ws m x c ws′ r → InsertingAt ws m c x ws′ r
   inserting-at c x {ws′} {r} b ins = record {
-    put = λ e. let o = free-place ws m (x .key) e in putting-free ws m x c (o .fits) (o .at) ws′ r ins;
+    put = λ e g. let o = free-place ws m (x .key) e in putting-free ws m x c (o .fits) (o .at) ws′ r g ins;
+    capacity =
+      by-lt (ring.next ws (m .capacity + 1)) (m .capacity)
+      (λ h. ins .grown h .capacity)
+      (λ h. ap (λ (n : LinkedHashMap). n .capacity) (ins .none h .0));
     kept =
-        by-lt (ring.next ws (m .capacity + 1)) (m .capacity)
-        (λ h. kept-then (kept-put (m .capacity) ws c (ring.next ws (m .capacity + 1)) x b h) (grown-kept (putIn ws (m .capacity) c (ring.next ws (m .capacity + 1)) x) m (lenAfter m) ws′ (r .map) (ins .grown h)))
-        (λ h. rw (ins .full h .1) (kept-same (m .capacity) ws));
+      by-lt (ring.next ws (m .capacity + 1)) (m .capacity)
+      (λ h. kept-then (kept-put (m .capacity) ws c (ring.next ws (m .capacity + 1)) x b h) (grown-kept (putIn ws (m .capacity) c (ring.next ws (m .capacity + 1)) x) m (lenAfter m) ws′ r (ins .grown h)))
+      (λ h. rw (ins .none h .1) (kept-same (m .capacity) ws));
   }
 
   -- a slot or a cell that is no key's: there is no room, or it is past the last
@@ -145,9 +151,9 @@ module _ (ws : List ℕ) (m : LinkedHashMap) where
     pub taking-beyond : {c s : ℕ} → cellCount (m .capacity) ≤ c → TakingAt ws m c s ws r
     taking-beyond h = record { remove = λ k e. absurd (omega (arith, at-found _ _ _ _ _ (at-place ws m k e .at) .cell)); kept = kept-same (m .capacity) ws }
 
-  module _ {c : ℕ} {x : Record} {r : Put} where
-    pub inserting-unfit : fit (m .capacity) (length ws) ≡ false → InsertingAt ws m c x ws r
-    inserting-unfit f = record { put = λ e. absurd (true≢false (sym (free-place ws m (x .key) e .fits) ∙ f)); kept = kept-same (m .capacity) ws }
+  module _ {c : ℕ} {x : Record} where
+    pub inserting-unfit : fit (m .capacity) (length ws) ≡ false → InsertingAt ws m c x ws m
+    inserting-unfit f = record { put = λ e g. absurd (true≢false (sym (free-place ws m (x .key) e .fits) ∙ f)); capacity = refl; kept = kept-same (m .capacity) ws }
 
-    pub inserting-beyond : cellCount (m .capacity) ≤ c → InsertingAt ws m c x ws r
-    inserting-beyond h = record { put = λ e. absurd (omega (arith, free-vacant _ _ _ _ (free-place ws m (x .key) e .at) .cell)); kept = kept-same (m .capacity) ws }
+    pub inserting-beyond : cellCount (m .capacity) ≤ c → InsertingAt ws m c x ws m
+    inserting-beyond h = record { put = λ e g. absurd (omega (arith, free-vacant _ _ _ _ (free-place ws m (x .key) e .at) .cell)); capacity = refl; kept = kept-same (m .capacity) ws }

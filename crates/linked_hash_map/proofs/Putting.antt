@@ -20,7 +20,6 @@ use Rattle.cells.proofs.Probing.{at-found, free-vacant}
 use Rattle.cells.proofs.Indexing.{erased-outside, never-full}
 use Rattle.linked_hash_map.specs.declared.map.LinkedHashMap.{LinkedHashMap}
 use Rattle.linked_hash_map.specs.declared.map.Record.{Record}
-use Rattle.linked_hash_map.specs.declared.map.Put.{Put}
 use Rattle.linked_hash_map.specs.declared.map.Placed.the-variants as placed
 use Rattle.linked_hash_map.specs.declared.map.Taken.the-variants as taken
 use Rattle.linked_hash_map.specs.Words.{fit, Kept, recordAt, written, replaced, takenOut, putIn, refilled}
@@ -219,19 +218,32 @@ module _ (ws : List ℕ) (m : LinkedHashMap) (x : Record) (c : ℕ) (f : fit (m 
           let here : ring.next ws (m .capacity + 1) ≡ y = first-free is ∙ ap (λ (k : List ℕ). getD k 0 (m .capacity + 1)) q in
           rw q (head here)
 
-  putting-full : m .capacity ≤ ring.next ws (m .capacity + 1) → Putting ws m x ws (record { map = m; answer = placed.Full })
+  -- as many records as the capacity
+  pub putting-full : m .capacity ≤ m .len → Putting ws m x ws (record { map = m; answer = placed.Full })
   unfolding placing put
   putting-full h = record {
     refused = λ q. absurd (true≢false (sym f ∙ q));
-    answer = λ is. rw (miss is (x .key) (free-not-at e) .look, le-ltb (length (modelOf ws m)) (m .capacity) (omega (arith, model-length ws m, none-free is h)));
+    answer = λ is. rw (miss is (x .key) (free-not-at e) .look, le-ltb (length (modelOf ws m)) (m .capacity) (omega (arith, model-length ws m)));
     capacity = refl;
     map = λ is. is;
-    model = λ is. rw (miss is (x .key) (free-not-at e) .held, le-ltb (length (modelOf ws m)) (m .capacity) (omega (arith, model-length ws m, none-free is h)));
+    model = λ is. rw (miss is (x .key) (free-not-at e) .held, le-ltb (length (modelOf ws m)) (m .capacity) (omega (arith, model-length ws m)));
     full = λ q. (refl, refl);
     kept = kept-same (m .capacity) ws;
   }
 
-  module _ (ws′ : List ℕ) (r : Put) (ins : Inserting ws m x c ws′ r) (h : ring.next ws (m .capacity + 1) < m .capacity) where
+  -- fewer, and no record free: no map
+  putting-nowhere : m .len < m .capacity → m .capacity ≤ ring.next ws (m .capacity + 1) → Putting ws m x ws (record { map = m; answer = placed.Inserted })
+  putting-nowhere b h = record {
+    refused = λ q. absurd (true≢false (sym f ∙ q));
+    answer = λ is. absurd (omega (arith, none-free is h));
+    capacity = refl;
+    map = λ is. is;
+    model = λ is. absurd (omega (arith, none-free is h));
+    full = λ q. absurd (let z : _≡_ {A = ℕ} 0 1 = cc in omega arith);
+    kept = kept-same (m .capacity) ws;
+  }
+
+  module _ (ws′ : List ℕ) (r : LinkedHashMap) (ins : Inserting ws m x c ws′ r) (h : ring.next ws (m .capacity + 1) < m .capacity) where
     abbrev s : ℕ
     s = ring.next ws (m .capacity + 1)
 
@@ -248,51 +260,51 @@ module _ (ws : List ℕ) (m : LinkedHashMap) (x : Record) (c : ℕ) (f : fit (m 
         rw (lt-ltb (m .len) (m .capacity) room) (omega (arith, live-length ws m))
 
     new-laid : IsMap ws m → Laid ws′ (m .capacity) (s ∷ liveOf ws m) (ring.without s (freeOf ws m))
-    new-laid is = grown-laid P m (lenAfter m) ws′ (r .map) (ins .grown h) _ _ (count-after is) (laid-put (of-map is) c s x (some-free is h) (new is) e)
+    new-laid is = grown-laid P m (lenAfter m) ws′ r (ins .grown h) _ _ (count-after is) (laid-put (of-map is) c s x (some-free is h) (new is) e)
 
     -- what stands at the slots after the insertion
     new-at : IsMap ws m → recordAt ws′ s ≡ x
     new-at is =
-        grown-record P m (lenAfter m) ws′ (r .map) (ins .grown h) s h
+        grown-record P m (lenAfter m) ws′ r (ins .grown h) s h
         ∙ put-record ws (m .capacity) c s x s (free-vacant ws (m .capacity) (x .key) c e .cell) h
         ∙ record-written ws s x (omega (arith, is .room .words))
 
     new-other : IsMap ws m → (y : ℕ) → List·Memᴰ y (liveOf ws m) → recordAt ws′ y ≡ recordAt ws y
     new-other is y q =
         let b : y < m .capacity = live-below (of-map is) q in
-        grown-record P m (lenAfter m) ws′ (r .map) (ins .grown h) y b
+        grown-record P m (lenAfter m) ws′ r (ins .grown h) y b
         ∙ put-record ws (m .capacity) c s x y (free-vacant ws (m .capacity) (x .key) c e .cell) b
         ∙ record-written-other ws s x y (λ d. mem-not-both (is .rings) (Memᴰ·cast (sym d) q) (some-free is h))
 
-    laid-after : IsMap ws m → Laid ws′ (r .map .capacity) (s ∷ liveOf ws m) (ring.without s (freeOf ws m))
+    laid-after : IsMap ws m → Laid ws′ (r .capacity) (s ∷ liveOf ws m) (ring.without s (freeOf ws m))
     laid-after is = rw (ins .grown h .capacity) (new-laid is)
 
-    new-live : IsMap ws m → liveOf ws′ (r .map) ≡ s ∷ liveOf ws m
-    new-live is = live-is (r .map) (laid-after is) (ins .grown h .count ∙ count-after is)
+    new-live : IsMap ws m → liveOf ws′ r ≡ s ∷ liveOf ws m
+    new-live is = live-is r (laid-after is) (ins .grown h .count ∙ count-after is)
 
     room-left : IsMap ws m → length (modelOf ws m) < m .capacity
     room-left is = omega (arith, model-length ws m, is .rings .size, live-length ws m, length-without-one (two-swap (is .rings)) (some-free is h))
 
-    putting-inserted : Putting ws m x ws′ r
+    putting-inserted : Putting ws m x ws′ (record { map = r; answer = placed.Inserted })
     unfolding modelOf
     putting-inserted = record {
       refused = λ q. absurd (true≢false (sym f ∙ q));
-      answer = λ is. ins .answer h ∙ sym (placing-new (m .capacity) x (modelOf ws m) (miss is (x .key) (free-not-at e) .look) (room-left is));
+      answer = λ is. sym (placing-new (m .capacity) x (modelOf ws m) (miss is (x .key) (free-not-at e) .look) (room-left is));
       capacity = ins .grown h .capacity;
-      map = λ is. to-map (r .map) (laid-after is) (ins .grown h .count ∙ count-after is) (ins .grown h .opened);
+      map = λ is. to-map r (laid-after is) (ins .grown h .count ∙ count-after is) (ins .grown h .opened);
       model = λ is.
           let h′ = miss is (x .key) (free-not-at e) in
           ap (records ws′) (new-live is)
           ∙ in-front ws ws′ s x (liveOf ws m) (new-at is) (new-other is)
           ∙ ap (λ (rest : Model). x ∷ rest) (sym (without-missing ws (x .key) (liveOf ws m) (h′ .none)))
           ∙ sym (put-new (m .capacity) x (modelOf ws m) (h′ .held) (room-left is));
-      full = λ q. absurd (let z : _≡_ {A = ℕ} 0 1 = cc (ins .answer h) in omega arith);
-      kept = kept-then (kept-put (m .capacity) ws c s x (free-vacant ws (m .capacity) (x .key) c e .cell) h) (grown-kept P m (lenAfter m) ws′ (r .map) (ins .grown h));
+      full = λ q. absurd (let z : _≡_ {A = ℕ} 0 1 = cc in omega arith);
+      kept = kept-then (kept-put (m .capacity) ws c s x (free-vacant ws (m .capacity) (x .key) c e .cell) h) (grown-kept P m (lenAfter m) ws′ r (ins .grown h));
     }
 
   -- the insertion of a key whose probe offers cell c
-  pub putting-free : (ws′ : List ℕ) (r : Put) → Inserting ws m x c ws′ r → Putting ws m x ws′ r
-  putting-free ws′ r ins =
+  pub putting-free : (ws′ : List ℕ) (r : LinkedHashMap) → m .len < m .capacity → Inserting ws m x c ws′ r → Putting ws m x ws′ (record { map = r; answer = placed.Inserted })
+  putting-free ws′ r b ins =
       by-lt (ring.next ws (m .capacity + 1)) (m .capacity)
       (putting-inserted ws′ r ins)
-      (λ h. let q = ins .full h in rw (q .0, q .1) (putting-full h))
+      (λ h. let q = ins .none h in rw (q .0, q .1) (putting-nowhere b h))

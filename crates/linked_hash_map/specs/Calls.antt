@@ -2,7 +2,7 @@
 use mathlib.Core.Path.{_≡_}
 use mathlib.Core.Bool.{Bool, true, false, cond}
 use mathlib.Core.List.{List, []}
-use Prim.Native.Nat.{ℕ, _+_, _≤_}
+use Prim.Native.Nat.{ℕ, _+_, _<_, _≤_}
 use lib.ListN.{length}
 use Rattle.cells.specs.declared.Probe.{Probe}
 use Rattle.cells.specs.declared.Probe.the-variants as probed
@@ -118,9 +118,10 @@ pub record ReplacingAt (ws : List ℕ) (m : LinkedHashMap) (s : ℕ) (x : Record
   pub put : (c : ℕ) → placeOf ws m (x .key) ≡ place.At c s → Putting ws m x ws′ (record { map = m; answer = placed.Replaced r })
   pub kept : Kept (m .capacity) ws ws′
 
--- `insert_at`: where its key is new
-pub record InsertingAt (ws : List ℕ) (m : LinkedHashMap) (c : ℕ) (x : Record) (ws′ : List ℕ) (r : Put) : Type 0 where
-  pub put : placeOf ws m (x .key) ≡ place.Free c → Putting ws m x ws′ r
+-- `insert_at`: where its key is new, and there are fewer records than the capacity
+pub record InsertingAt (ws : List ℕ) (m : LinkedHashMap) (c : ℕ) (x : Record) (ws′ : List ℕ) (r : LinkedHashMap) : Type 0 where
+  pub put : placeOf ws m (x .key) ≡ place.Free c → m .len < m .capacity → Putting ws m x ws′ (record { map = r; answer = placed.Inserted })
+  pub capacity : r .capacity ≡ m .capacity
   pub kept : Kept (m .capacity) ws ws′
 
 -- `take_at`: what `remove` does where its key is at a cell and a slot

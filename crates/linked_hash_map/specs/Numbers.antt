@@ -9,8 +9,6 @@ use Rattle.cells.specs.declared.Probe.the-variants.{Free}
 use Rattle.cells.specs.Probe.{probe}
 use Rattle.linked_hash_map.specs.declared.map.LinkedHashMap.{LinkedHashMap}
 use Rattle.linked_hash_map.specs.declared.map.Record.{Record}
-use Rattle.linked_hash_map.specs.declared.map.Put.{Put}
-use Rattle.linked_hash_map.specs.declared.map.Placed.the-variants.{Inserted, Full}
 use Rattle.linked_hash_map.specs.declared.map.Slot.{Slot}
 use Rattle.linked_hash_map.specs.declared.map.Slot.the-variants.{At, Nothing}
 use Rattle.linked_hash_map.specs.Words.{refilled, putIn}
@@ -38,11 +36,10 @@ pub record Grown (ws : List ℕ) (m : LinkedHashMap) (k : ℕ) (ws′ : List ℕ
   pub opened : 1 ≤ r .refill_in
   pub words : ws′ ≡ cond (ltb 1 (m .refill_in)) ws (refilled ws (m .capacity) k)
 
--- an insertion with the cell to take in hand
-pub record Inserting (ws : List ℕ) (m : LinkedHashMap) (x : Record) (c : ℕ) (ws′ : List ℕ) (r : Put) : Type 0 where
-  pub full : m .capacity ≤ next ws (m .capacity + 1) → (r ≡ record { map = m; answer = Full }) × (ws′ ≡ ws)
-  pub answer : next ws (m .capacity + 1) < m .capacity → r .answer ≡ Inserted
-  pub grown : next ws (m .capacity + 1) < m .capacity → Grown (putIn ws (m .capacity) c (next ws (m .capacity + 1)) x) m (lenAfter m) ws′ (r .map)
+-- an insertion with the cell to take in hand; where there is no free record, nothing
+pub record Inserting (ws : List ℕ) (m : LinkedHashMap) (x : Record) (c : ℕ) (ws′ : List ℕ) (r : LinkedHashMap) : Type 0 where
+  pub none : m .capacity ≤ next ws (m .capacity + 1) → (r ≡ m) × (ws′ ≡ ws)
+  pub grown : next ws (m .capacity + 1) < m .capacity → Grown (putIn ws (m .capacity) c (next ws (m .capacity + 1)) x) m (lenAfter m) ws′ r
 
 -- a record put over the one at slot s, which no cell holds; where its key is held, that one is free
 pub record Renewing (ws : List ℕ) (m : LinkedHashMap) (x : Record) (s : ℕ) (ws′ : List ℕ) (r : LinkedHashMap) : Type 0 where

@@ -348,22 +348,16 @@ impl LinkedHashMap {
         replace(words, n, slot, item)
     }
 
-    // Puts the record of a new key at the front, and its cell at c.
-    pub fn insert_at(self, words: &mut [u64], c: usize, item: Record) -> Put
+    // Puts the record of a new key at the front, and its cell at c, where there are fewer records than the capacity.
+    pub fn insert_at(self, words: &mut [u64], c: usize, item: Record) -> LinkedHashMap
         ensures { λ r. ⌜ InsertingAt (now (words .entry)) self c item (now (words .exit)) r ⌝ }
     {
         let n = self.capacity;
         if !has_room(n, words.len()) {
-            return Put {
-                map: self,
-                answer: Placed::Refused,
-            };
+            return self;
         }
         if 12 * n + 192 <= c {
-            return Put {
-                map: self,
-                answer: Placed::Refused,
-            };
+            return self;
         }
         self.insert(words, item, c)
     }
@@ -399,7 +393,18 @@ impl LinkedHashMap {
                 map: self,
                 answer: Placed::Replaced(self.replace_at(words, s, item)),
             },
-            Place::Free(c) => self.insert_at(words, c, item),
+            Place::Free(c) => {
+                if self.len < self.capacity {
+                    return Put {
+                        map: self.insert_at(words, c, item),
+                        answer: Placed::Inserted,
+                    };
+                }
+                Put {
+                    map: self,
+                    answer: Placed::Full,
+                }
+            }
             Place::Full => Put {
                 map: self,
                 answer: Placed::Full,
@@ -411,27 +416,21 @@ impl LinkedHashMap {
         }
     }
 
-    // Puts a record whose key is new at the front, and its cell at c.
-    fn insert(self, words: &mut [u64], item: Record, c: usize) -> Put
+    // The same, on words that have room and with a cell that they have.
+    fn insert(self, words: &mut [u64], item: Record, c: usize) -> LinkedHashMap
         requires { ⌜ Room (length (now words)) (self .capacity) × (c < cellCount (self .capacity)) ⌝ }
         ensures { λ r. ⌜ Inserting (now (words .entry)) self item c (now (words .exit)) r ⌝ }
     {
         let n = self.capacity;
         let x = words[5 * n + 9];
         if n as u64 <= x {
-            return Put {
-                map: self,
-                answer: Placed::Full,
-            };
+            return self;
         }
         let s = x as usize;
         write_record(words, s, item);
         index::set_cell(words, n, c, x + 1);
         links::move_after(words, n + 2, n, s);
-        Put {
-            map: self.grown(words),
-            answer: Placed::Inserted,
-        }
+        self.grown(words)
     }
 
     // The numbers after an insertion, and now and then the cells anew.

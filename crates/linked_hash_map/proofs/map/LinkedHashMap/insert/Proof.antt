@@ -17,7 +17,7 @@ full : tie.Need-returns
 full c =
     let a = c .before .before .before .args in
     let e = free-link (a .words .now) (a .self .capacity) in
-    record { full = λ h. (refl, refl); answer = λ h. absurd (omega arith); grown = λ h. absurd (omega arith) }
+    record { none = λ h. (refl, refl); grown = λ h. absurd (omega arith) }
 
 inserted : tie.Need-returns-2
 inserted c =
@@ -28,7 +28,7 @@ inserted c =
     let a = tested .before .before .before .args in
     let e = free-link (a .words .now) (a .self .capacity) in
     let w = put-in _ _ _ _ _ (writing .write-record .ensures) (setting .set-cell .ensures) (moving .move-after .ensures) in
-    record { full = λ h. absurd (omega (arith, tested .if1 .left)); answer = λ h. refl; grown = λ h. rw e (rw w at (c .before .before .grown .ensures)) }
+    record { none = λ h. absurd (omega (arith, tested .if1 .left)); grown = λ h. rw e (rw w at (c .before .before .grown .ensures)) }
 
 pub insert-spec : {M : Type 1} → statement M
 insert-spec =
