@@ -205,18 +205,13 @@ module _ (ws : List ℕ) (l : FastLru) (x : Record) (ws′ : List ℕ) (p : Put)
       go is (new e v m) = absurd (let z : _≡_ {A = ℕ} 0 1 = cc (pt .answer is) in omega arith)
       go is (full e v h f) = from .model is h f
 
-  -- no map
-  pub placing-refused : p .answer ≡ placed.Refused → Placing ws l x ws′ (record { lru = l; answer = found.Nothing })
-  placing-refused q = record {
-    never = λ why e. let z : _≡_ {A = ℕ} 0 1 = cc in omega arith;
-    answer = λ is. absurd (go is (the is));
-    capacity = refl;
-    map = λ is. absurd (go is (the is));
-    model = λ is. absurd (go is (the is));
-    kept = pt .kept;
-  }
-    where
-      go : IsMap ws (l .map) → The → ⊥
-      go is (over r e v m) = let z : _≡_ {A = ℕ} 0 1 = cc (pt .answer is) in omega arith
-      go is (new e v m) = let z : _≡_ {A = ℕ} 0 1 = cc (pt .answer is) in omega arith
-      go is (full e v h f) = let z : _≡_ {A = ℕ} 0 1 = cc (pt .answer is) in omega arith
+-- no map
+pub placing-none : (ws : List ℕ) (l : FastLru) (x : Record) → (IsMap ws (l .map) → ⊥) → Placing ws l x ws (record { lru = l; answer = found.Nothing })
+placing-none ws l x never-map = record {
+  never = λ why e. let z : _≡_ {A = ℕ} 0 1 = cc in omega arith;
+  answer = λ is. absurd (never-map is);
+  capacity = refl;
+  map = λ is. is;
+  model = λ is. absurd (never-map is);
+  kept = record { size = refl; past = λ j h. refl };
+}

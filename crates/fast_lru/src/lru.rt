@@ -253,7 +253,7 @@ impl FastLru {
                 }
             }
             Place::Full => Got {
-                lru: self.place_evicting(words, item),
+                lru: self,
                 answer: Found::Nothing,
             },
             Place::Refused => Got {

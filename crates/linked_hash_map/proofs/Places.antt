@@ -12,6 +12,7 @@ use Rattle.cells.specs.declared.Probe.the-variants as probed
 use Rattle.cells.specs.Cells.{cellCount}
 use Rattle.cells.specs.Probe.{probe}
 use Rattle.cells.proofs.Probing.{at-found, free-vacant}
+use Rattle.cells.proofs.Indexing.{never-full}
 use Rattle.linked_hash_map.specs.declared.map.LinkedHashMap.{LinkedHashMap}
 use Rattle.linked_hash_map.specs.declared.map.Record.{Record}
 use Rattle.linked_hash_map.specs.declared.map.Place.{Place}
@@ -20,9 +21,10 @@ use Rattle.linked_hash_map.specs.declared.map.Placed.the-variants as pla
 use Rattle.linked_hash_map.specs.declared.map.Taken.the-variants as taken
 use Rattle.linked_hash_map.specs.Words.{fit, recordAt, replaced, takenOut, putIn}
 use Rattle.linked_hash_map.specs.Numbers.{lenAfter, Inserting}
+use Rattle.linked_hash_map.specs.Map.{IsMap}
 use Rattle.linked_hash_map.specs.Calls.{placeFrom, placeOf, ReplacingAt, InsertingAt, TakingAt, Putting, Removing}
 use Rattle.linked_hash_map.proofs.Keeping.{kept-same, kept-then, kept-replaced, kept-taken, kept-put}
-use Rattle.linked_hash_map.proofs.Probed.{free-not-at, full-not-at}
+use Rattle.linked_hash_map.proofs.Probed.{map-fits, free-not-at, full-not-at}
 use Rattle.linked_hash_map.proofs.Putting.{removing-refused, removing-none, removing-at, putting-refused, putting-crowded, putting-at, putting-full, putting-free, grown-kept}
 
 module _ (ws : List ℕ) (m : LinkedHashMap) (k : ℕ) where
@@ -87,6 +89,13 @@ module _ (ws : List ℕ) (m : LinkedHashMap) (k : ℕ) where
       go (found probed.Full o p) = absurd (let z : _≡_ {A = ℕ} 0 1 = cc in omega arith)
       go (nowhere f p) = f
 
+-- a map has a place for every key
+pub full-no-map : {ws : List ℕ} {m : LinkedHashMap} (k : ℕ) → placeOf ws m k ≡ place.Full → IsMap ws m → ⊥
+full-no-map {ws} {m} k e is = never-full (is .index) k (full-place ws m k e .at)
+
+pub refused-no-map : {ws : List ℕ} {m : LinkedHashMap} (k : ℕ) → placeOf ws m k ≡ place.Refused → IsMap ws m → ⊥
+refused-no-map {ws} {m} k e is = true≢false (sym (map-fits is) ∙ refused-place ws m k e)
+
 -- ---- where nothing goes on
 module _ {ws : List ℕ} {m : LinkedHashMap} where
   pub put-over : (x : Record) {c : ℕ} → placeOf ws m (x .key) ≡ place.Free c → m .capacity ≤ m .len → Putting ws m x ws (record { map = m; answer = placed.Full })
@@ -125,13 +134,13 @@ module _ (ws : List ℕ) (m : LinkedHashMap) where
   inserting-at c x {ws′} {r} b ins = record {
     put = λ e g. let o = free-place ws m (x .key) e in putting-free ws m x c (o .fits) (o .at) ws′ r g ins;
     capacity =
-      by-lt (ring.next ws (m .capacity + 1)) (m .capacity)
-      (λ h. ins .grown h .capacity)
-      (λ h. ap (λ (n : LinkedHashMap). n .capacity) (ins .none h .0));
+        by-lt (ring.next ws (m .capacity + 1)) (m .capacity)
+        (λ h. ins .grown h .capacity)
+        (λ h. ap (λ (n : LinkedHashMap). n .capacity) (ins .none h .0));
     kept =
-      by-lt (ring.next ws (m .capacity + 1)) (m .capacity)
-      (λ h. kept-then (kept-put (m .capacity) ws c (ring.next ws (m .capacity + 1)) x b h) (grown-kept (putIn ws (m .capacity) c (ring.next ws (m .capacity + 1)) x) m (lenAfter m) ws′ r (ins .grown h)))
-      (λ h. rw (ins .none h .1) (kept-same (m .capacity) ws));
+        by-lt (ring.next ws (m .capacity + 1)) (m .capacity)
+        (λ h. kept-then (kept-put (m .capacity) ws c (ring.next ws (m .capacity + 1)) x b h) (grown-kept (putIn ws (m .capacity) c (ring.next ws (m .capacity + 1)) x) m (lenAfter m) ws′ r (ins .grown h)))
+        (λ h. rw (ins .none h .1) (kept-same (m .capacity) ws));
   }
 
   -- a slot or a cell that is no key's: there is no room, or it is past the last

@@ -1,0 +1,27 @@
+use mathlib.Core.Path.{refl, sym, _∙_}
+use borrow.Author.Needs.{needs}
+use Rattle.linked_hash_map.proofs.Places.{put-over, put-full, put-refused}
+use Rattle.lazy_heap.proofs.heap.store.Statement.{statement}
+use Rattle.lazy_heap.proofs.heap.store.Tie as tie
+
+pub store-spec : {M : Type 1} → statement M
+store-spec =
+    tie.close
+    (tie.spec
+    (λ c κs. search needs)
+    (λ c. search needs)
+    (λ c κs. search needs)
+    (λ c. search needs)
+    (λ c κs. search needs)
+    (λ c. search needs)
+    (λ c. record { put = _; putting = c .before .before .insert-at .ensures .put (sym (c .before .before .before .before .before .before .before .before .before .seek .ensures) ∙ c .before .before .before .before .before .before .before .c .given .1) (c .before .before .before .before .if1 .taken); scores = refl; answer = refl })
+    (λ c. search needs)
+    (λ c. search needs)
+    (λ c. search needs)
+    (λ c. record { put = _; putting = c .before .before .replace-at .ensures .put _ (sym (c .before .before .before .before .before .before .before .seek .ensures) ∙ c .before .before .before .before .before .s .given .1); scores = refl; answer = refl })
+    (λ c. search needs)
+    (λ c. record { put = _; putting = put-over _ (sym (c .before .before .before .before .before .seek .ensures) ∙ c .before .before .before .c .given .1) (c .if1 .left); scores = refl; answer = refl })
+    (λ c. search needs)
+    (λ c. record { put = _; putting = put-full _ (sym (c .before .before .seek .ensures) ∙ c .enum-told .given .1); scores = refl; answer = refl })
+    (λ c. search needs)
+    (λ c. record { put = _; putting = put-refused _ (sym (c .before .before .seek .ensures) ∙ c .enum-told2 .given .1); scores = refl; answer = refl }))
