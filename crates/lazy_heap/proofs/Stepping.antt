@@ -27,6 +27,7 @@ use Rattle.linked_hash_map.specs.Calls.{Putting}
 use Rattle.linked_hash_map.proofs.Laws.{held}
 use Rattle.linked_hash_map.proofs.Putting.{model-length}
 use Rattle.lazy_heap.specs.declared.heap.LazyMinHeap.{LazyMinHeap}
+use Rattle.lazy_heap.specs.declared.heap.Stored.{Stored}
 use Rattle.lazy_heap_model.specs.declared.scores.Score.{Score}
 use Rattle.lazy_heap_model.specs.declared.scores.Score.the-variants as score
 use Rattle.time.specs.declared.refusal.Outcome.the-variants.{Done}
@@ -34,7 +35,7 @@ use Rattle.lazy_heap.specs.Answers.{ofScore}
 use Rattle.lazy_heap.specs.Words.{wordsFor, start, part, Kept}
 use Rattle.lazy_heap_model.specs.Model.{Heap, entryOf, atLeastOne, liveEntries, surplus, tooMany, rebuilt, numbered, renumbered, isFull, beforePush, pushed, maybeRebuilt, heldScore}
 use Rattle.lazy_heap.specs.Heap.{heldOf, entriesOf, modelOf, Parts}
-use Rattle.lazy_heap.specs.Steps.{after, replacedScore, Crowding, Pushing, Rebuilding, Numbered, Renumbering, Fitting, Trimming, Holding}
+use Rattle.lazy_heap.specs.Steps.{after, replacedScore, Storing, Crowding, Pushing, Rebuilding, Numbered, Renumbering, Fitting, Trimming, Holding}
 use Rattle.lazy_heap.proofs.Parts.{part-same}
 use Rattle.lazy_heap.proofs.Settling.{entered-same}
 use Rattle.lazy_heap.proofs.Refilling.{Refilling, Numbering}
@@ -221,6 +222,10 @@ module _ (k : ℕ) (l : List Record) (n : ℕ) where
       go true w q = refl
       go false (inl h) q = lt-ltb (length l) n h
       go false (inr h) q = absurd (true≢false (sym (le-leb n (length l) h) ∙ q))
+
+-- the numbers of the scores, one by one
+pub stored-scores : {ws ws′ : List ℕ} {m : LinkedHashMap} {x : Record} {r : Stored} (o : Storing ws m x ws′ r) → _≡_ {A = LinkedHashMap} (record { capacity = m .capacity; len = r .scores .len; «refill_in» = r .scores .«refill_in» }) (o .put .map)
+stored-scores o = λ i. record { capacity = sym (o .putting .capacity) i; len = o .scores i .len; «refill_in» = o .scores i .«refill_in» }
 
 module _ {ws ws₁ ws′ : List ℕ} {h r : LazyMinHeap} {k s : ℕ} (p : Put) (put : Putting ws (h .scores) (record { key = k; first = s; second = h .seq }) ws₁ p) (push : Pushing ws₁ (record { scores = p .map; entries = h .entries; seq = after (h .seq); factor = h .factor }) (record { score = s; seq = h .seq; key = k }) ws′ r) where
   abbrev x : Record

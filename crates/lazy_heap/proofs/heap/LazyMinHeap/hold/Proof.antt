@@ -1,5 +1,5 @@
 use borrow.Author.Needs.{needs}
-use Rattle.lazy_heap.proofs.Stepping.{holding}
+use Rattle.lazy_heap.proofs.Stepping.{stored-scores, holding}
 use Rattle.lazy_heap.proofs.heap.LazyMinHeap.hold.Statement.{statement}
 use Rattle.lazy_heap.proofs.heap.LazyMinHeap.hold.Tie as tie
 
@@ -9,6 +9,6 @@ hold-spec =
     (tie.spec
     (λ c κs. search needs)
     (λ c κs. search needs)
-    (λ c κs. let o = c .before .before .before .before .before .store .ensures in rw (o .scores, o .putting .capacity, o .putting .kept .size) (c .before .before .before .before .before .before .before .before .pre))
+    (λ c κs. search needs)
     (λ c. search needs)
-    (λ c. let o = c .before .before .before .before .before .before .before .before .store .ensures in holding _ (o .putting) (rw (c .before .before .before .before .number-after .ensures, o .scores) at (c .before .before .push .ensures)) (o .answer)))
+    (λ c. let o = c .before .before .before .before .before .before .before .store .ensures in holding _ (o .putting) (rw (c .before .before .before .before .number-after .ensures, stored-scores o) at (c .before .before .push .ensures)) (o .answer)))
