@@ -322,10 +322,10 @@ impl FastLru {
                 let map = self.map;
                 match map.seek(words, key) {
                     Place::At(c, s) => {
-                        let old = map.take_at(words, c, s);
+                        let gone = map.take_at(words, c, s);
                         Got {
                             lru: FastLru { map: map.shrunk() },
-                            answer: Found::Value(old.first),
+                            answer: Found::Value(gone.first),
                         }
                     }
                     Place::Free(_) => Got {

@@ -139,35 +139,35 @@ fn too_many(factor: usize, entries: usize, held: usize) -> bool
 }
 
 // What `put` does, told by the score that it replaces.
-fn store(scores: LinkedHashMap, words: &mut [u64], item: Record) -> Stored
-    ensures { λ r. ⌜ Storing (now (words .entry)) scores item (now (words .exit)) r ⌝ }
+fn store(map: LinkedHashMap, words: &mut [u64], item: Record) -> Stored
+    ensures { λ r. ⌜ Storing (now (words .entry)) map item (now (words .exit)) r ⌝ }
 {
-    match scores.seek(words, item.key) {
+    match map.seek(words, item.key) {
         Place::At(_, s) => {
-            let old = scores.replace_at(words, s, item);
+            let old = map.replace_at(words, s, item);
             Stored {
-                scores,
+                scores: map,
                 answer: Score::Value(old.first),
             }
         }
         Place::Free(c) => {
-            if scores.len < scores.capacity {
+            if map.len < map.capacity {
                 return Stored {
-                    scores: scores.insert_at(words, c, item),
+                    scores: map.insert_at(words, c, item),
                     answer: Score::Nothing,
                 };
             }
             Stored {
-                scores,
+                scores: map,
                 answer: Score::Nothing,
             }
         }
         Place::Full => Stored {
-            scores,
+            scores: map,
             answer: Score::Nothing,
         },
         Place::Refused => Stored {
-            scores,
+            scores: map,
             answer: Score::Nothing,
         },
     }
@@ -974,12 +974,12 @@ impl LazyMinHeap {
         ensures { λ r. ⌜ Taking (now (words .entry)) self key (now (words .exit)) r ⌝ }
     {
         let heap = self.pop(words);
-        let scores = heap.scores;
-        match scores.seek(words, key) {
+        let map = heap.scores;
+        match map.seek(words, key) {
             Place::At(c, s) => {
-                scores.take_at(words, c, s);
+                map.take_at(words, c, s);
                 LazyMinHeap {
-                    scores: scores.shrunk(),
+                    scores: map.shrunk(),
                     entries: heap.entries,
                     seq: heap.seq,
                     factor: heap.factor,
