@@ -10,9 +10,11 @@
 // Cells find a key's record by linear probing, four cells of 16 bits to a word (crate `cells`): at most one cell in
 // twelve holds a record, so that a lookup seldom goes beyond its first cell.
 //
-// `find`, `touch`, `seek`, `put`, `remove` and `recycle` take expected constant time, and what goes on at a place constant time;
-// `open` and `check` time in proportion to n, and
-// `clear` to the records held, or to n where they are more than an eighth of it.
+// `seek` tells a key's place, and `replace_at`, `insert_at` and `take_at` go on there: what `put` and `remove` do, for a caller
+// that looks once and takes only the numbers that change.
+//
+// A call takes expected constant time, but `open` and `check` take time in proportion to n, and `clear` to the records held,
+// or to n where they are more than an eighth of it.
 // Any words and any numbers may be handed to any call: a number is tested before it is an index, and every walk is
 // counted. Where the words are no map, only they and the numbers handed back may change.
 mod check;
