@@ -31,7 +31,7 @@ use Rattle.replay_expiring.specs.declared.call.Asked.{Asked}
 use Rattle.replay_expiring.specs.Words.{changing, askedAt, callOf, callIn, ofAnswer}
 use Rattle.replay_expiring.specs.Numbers.{bookIn}
 use Rattle.replay_expiring.specs.Runs.{ofReply, Turn, changed, looked, Run, none, more, Replayed, Fits, defaultBy, outcomeBy, Opens, callsIn, toldIn, discardedIn, wordsOf, AsThePlainBook}
-use Rattle.replay_expiring.proofs.Laws.{book-stored, book-past, book-size}
+use Rattle.replay_expiring.proofs.Laws.{changed-stored, changed-past, changed-size}
 use Rattle.replay_expiring.proofs.Steps.{Look, at-contains, at-peek, at-ttl-status, at-recency-rank, at-live-len, at-expirations, at-peek-lru, model-stays, heap-stays, within, Step}
 use Rattle.replay_expiring.proofs.Steps as steps
 
@@ -186,8 +186,8 @@ module _ {cs ns ws out : List ℕ} {p : Book} {k : ℕ} {ns′ ws′ out′ : Li
 
   turned : {ns″ ws″ out″ : List ℕ} → Came cs ns ws p out k ns′ ws′ out′ → 4 * k + 4 ≤ length out → 12 ≤ length ns → Turn (askedAt cs k) k ns′ ws′ out′ ns″ ws″ out″ → Came cs ns ws p out (suc k) ns″ ws″ out″
   turned f h n (changed {r = r} l o) =
-      let back = book-stored ns′ (r .book) (omega (arith, f .numbers)) in
-      then r f h (book-size ns′ (r .book)) (rw back (steps.changed (f .book) (f .model) o))
+      let back = changed-stored ns′ (omega (arith, f .numbers)) (f .book) o in
+      then r f h (changed-size ns′ (r .book)) (rw back (steps.changed (f .book) (f .model) o))
   turned f h n (looked {r = r} l o) =
       let a = askedAt cs k in
       let look = looking (a .operation) (a .key) (a .value) (a .ttl) l in
@@ -204,7 +204,7 @@ module _ {cs ns ws out : List ℕ} (p : Book) (n : 12 ≤ length ns) (is : IsBoo
 
 -- ---- the numbers past the book's own
 turn-past : {a : Asked} {i : ℕ} {ns ws out ns′ ws′ out′ : List ℕ} → Turn a i ns ws out ns′ ws′ out′ → (j : ℕ) → 12 ≤ j → getD ns′ j 0 ≡ getD ns j 0
-turn-past {ns = ns} (changed {r = r} l o) j h = book-past ns (r .book) j h
+turn-past {ns = ns} (changed {r = r} l o) j h = changed-past ns (r .book) j h
 turn-past (looked l o) j h = refl
 
 pub run-past : {cs ns ws out ns′ ws′ out′ : List ℕ} {k : ℕ} → Run cs ns ws out k ns′ ws′ out′ → (j : ℕ) → 12 ≤ j → getD ns′ j 0 ≡ getD ns j 0

@@ -40,3 +40,7 @@ withRest ns l n = set (set (set ns 9 (givenOf l)) 10 (ticksOf l)) 11 n
 
 unfoldable pub withBook : List ℕ → Expiring → List ℕ
 withBook ns b = withRest (withIndex (withMap ns (b .inner .map)) (b .index)) (b .«default_ttl») (b .expirations)
+
+-- the same, but for the limits, the factor and the default lifetime, which no call changes
+unfoldable pub withChanged : List ℕ → Expiring → List ℕ
+withChanged ns b = set (set (set (set (set (set (set ns 1 (b .inner .map .len)) 2 (b .inner .map .refill_in)) 4 (b .index .heap .scores .len)) 5 (b .index .heap .scores .refill_in)) 6 (b .index .heap .entries)) 7 (b .index .heap .seq)) 11 (b .expirations)

@@ -16,7 +16,7 @@ use Rattle.replay.specs.declared.answer.Answer as replay
 use Rattle.replay.specs.Answers.{words}
 use Rattle.replay.specs.Runs.{withAnswer}
 use Rattle.replay_expiring.specs.declared.call.Asked.{Asked}
-use Rattle.replay_expiring.specs.Numbers.{bookIn, withBook}
+use Rattle.replay_expiring.specs.Numbers.{bookIn, withChanged}
 use Rattle.replay_expiring.specs.Words.{operations, changing, askedAt, callIn, defaultOf, ofAnswer, ofOutcome}
 
 -- ---- a list of calls
@@ -28,10 +28,10 @@ abbrev pub ofReply : Reply → replay.Answer
 ofReply r = ofAnswer (r .answer) (r .discarded)
 
 -- one call, as the book's call promises, on the book that the numbers tell, with its answer written as the i-th: from the numbers
--- ns, the words ws and the answers out to the three after it. A call that may change the book leaves the numbers of its reply; a
--- look leaves numbers and words as they are.
+-- ns, the words ws and the answers out to the three after it. A call that may change the book leaves the numbers of its reply, but
+-- for those that no call changes; a look leaves numbers and words as they are.
 pub data Turn (a : Asked) (i : ℕ) (ns ws out : List ℕ) : List ℕ → List ℕ → List ℕ → Type 0 where
-  changed : {ws′ : List ℕ} {r : Reply} → a .operation < changing → Following ws (bookIn ns) (a .tick) (callIn a) ws′ r → Turn a i ns ws out (withBook ns (r .book)) ws′ (withAnswer out i (ofReply r))
+  changed : {ws′ : List ℕ} {r : Reply} → a .operation < changing → Following ws (bookIn ns) (a .tick) (callIn a) ws′ r → Turn a i ns ws out (withChanged ns (r .book)) ws′ (withAnswer out i (ofReply r))
   looked : {r : Reply} → changing ≤ a .operation → Following ws (bookIn ns) (a .tick) (callIn a) ws r → Turn a i ns ws out ns ws (withAnswer out i (ofReply r))
 
 -- the first k calls, each on what the one before left

@@ -66,7 +66,7 @@ fn turn(numbers: &mut [u64], words: &mut [u64], call: Asked, answers: &mut [u64]
         let reply = call::change(numbers, words, call);
         let book = reply.book;
         let answer = reply.answer;
-        numbers::store_book(numbers, book);
+        numbers::store_changed(numbers, book);
         replay::store_answer(
             answers,
             i,

@@ -2,7 +2,7 @@
 ghost use mathlib.Core.Path.{_≡_};
 ghost use Prim.Native.Nat.{_≤_};
 ghost use lib.ListN.{length};
-ghost use Rattle.replay_expiring.specs.Numbers.{indexIn, defaultIn, bookIn, givenOf, ticksOf, withIndex, withRest, withBook};
+ghost use Rattle.replay_expiring.specs.Numbers.{indexIn, defaultIn, bookIn, givenOf, ticksOf, withIndex, withRest, withBook, withChanged};
 use expiration_index::ExpirationIndex;
 use expiring::Expiring;
 use expiring_model::DefaultTtl;
@@ -105,4 +105,24 @@ pub fn store_book(numbers: &mut [u64], book: Expiring)
     store_index(numbers, index);
     let default_ttl = book.default_ttl;
     store_rest(numbers, default_ttl, book.expirations);
+}
+
+// The numbers that a call may change: neither the limits and the factor, nor the default lifetime. A number that is stored makes
+// the next call wait for it.
+pub fn store_changed(numbers: &mut [u64], book: Expiring)
+    requires { ⌜ 12 ≤ length (now numbers) ⌝ }
+    ensures { λ _. ⌜ now (numbers .exit) ≡ withChanged (now (numbers .entry)) book ⌝ }
+{
+    let inner = book.inner;
+    let map = inner.map;
+    let index = book.index;
+    let heap = index.heap;
+    let scores = heap.scores;
+    numbers[1] = map.len as u64;
+    numbers[2] = map.refill_in as u64;
+    numbers[4] = scores.len as u64;
+    numbers[5] = scores.refill_in as u64;
+    numbers[6] = heap.entries as u64;
+    numbers[7] = heap.seq;
+    numbers[11] = book.expirations;
 }

@@ -352,18 +352,23 @@ fn lists_of_any_length() {
     }
 }
 
-/// A default lifetime is handed back as 1 and its ticks, or as twice 0, by a call that may change the book; a look leaves it.
+/// Any number but 0 says that there is a default lifetime, and every call leaves its numbers as they are.
 #[test]
 fn numbers_of_a_default_lifetime() {
-    for (read, back) in [([0, 9], [0, 0]), ([1, 9], [1, 9]), ([7, 9], [1, 9])] {
+    for (read, status) in [
+        ([0, 9], Answer::Immortal),
+        ([1, 9], Answer::Live(9, 9)),
+        ([7, 9], Answer::Live(9, 9)),
+    ] {
         let mut book = Expiring::new(Opening {
+            capacity: 1,
             limit: 1,
             ..Opening::default()
         });
         book.numbers[9..11].copy_from_slice(&read);
-        book.call(0, Call::Expirations);
+        book.call(0, Call::Insert(5, 50));
         assert_eq!(book.numbers[9..11], read);
-        book.call(0, Call::PurgeExpired);
-        assert_eq!(book.numbers[9..11], back);
+        assert_eq!(book.call(0, Call::TtlStatus(5)).0, status);
+        assert_eq!(book.numbers[9..11], read);
     }
 }

@@ -19,7 +19,7 @@ turn-spec =
     let n = a .before .before .before .before .before in
     let g = n .before .before .before .before .before in
     let t = g .before .before .before in
-    rw (a .store-answer .ensures) (rw (a .before .of-answer .ensures) (rw (n .store-book .ensures) (changed (t .if1 .taken) (g .change .ensures)))))
+    rw (a .store-answer .ensures) (rw (a .before .of-answer .ensures) (rw (n .store-changed .ensures) (changed (t .if1 .taken) (g .change .ensures)))))
     (λ c κs. search needs)
     (λ c κs. search needs)
     (λ c κs. search needs)
