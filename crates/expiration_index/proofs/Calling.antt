@@ -1,7 +1,7 @@
 -- What the calls come to: the heap's own promise, read on the pairs.
 use mathlib.Core.Path.{_≡_, refl, sym, ap, _∙_}
 use mathlib.Core.Bool.{Bool, true, false, true≢false, cond}
-use mathlib.Core.Logic.{_⊎_, inl, inr, ⊎-elim}
+use mathlib.Core.Logic.{inl, inr, ⊎-elim}
 use mathlib.Core.List.{List, [], _∷_}
 use Prim.Native.Nat.{ℕ, _-_, _^_, _<_}
 use native.Mathlib.Omega.{arith}
@@ -34,7 +34,7 @@ use Rattle.lazy_heap_model.specs.Model as lazy
 use Rattle.lazy_heap.specs.Heap.{IsHeap}
 use Rattle.lazy_heap.specs.Calls.{takenWithin, poppedAtMost}
 use Rattle.lazy_heap.specs.Calls as heap
-use Rattle.lazy_heap.proofs.Calling.{refused-done, with-refused, with-small}
+use Rattle.lazy_heap.proofs.Calling.{with-refused, with-small}
 use Rattle.lazy_heap.proofs.Laws.{room-limits}
 use Rattle.expiration_index.specs.declared.index.ExpirationIndex.{ExpirationIndex}
 use Rattle.expiration_index.specs.declared.answers.Deadline.{Deadline}

@@ -16,7 +16,6 @@ use Rattle.time.specs.declared.refusal.Outcome.{Outcome}
 use Rattle.time.specs.declared.refusal.Outcome.the-variants.{Done, Refused}
 use Rattle.lazy_heap.specs.Words.{limitsOf, Kept}
 use Rattle.lazy_heap_model.specs.Model.{Heap, heapLen, surplus, opened, updated, updateDiscards, removed, peeked, popped, cleared, stale}
-use Rattle.lazy_heap.specs.Heap.{IsHeap}
 use Rattle.lazy_heap.specs.Calls.{noHeap, nothing}
 use Rattle.expiration_index.specs.declared.index.ExpirationIndex.{ExpirationIndex}
 use Rattle.expiration_index.specs.declared.answers.Deadline.{Deadline}

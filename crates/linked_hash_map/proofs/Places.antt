@@ -22,7 +22,7 @@ use Rattle.linked_hash_map.specs.declared.map.Taken.the-variants as take
 use Rattle.linked_hash_map.specs.Words.{fit, recordAt, replaced, takenOut, putIn}
 use Rattle.linked_hash_map.specs.Numbers.{lenAfter, Inserting}
 use Rattle.linked_hash_map.specs.Map.{IsMap}
-use Rattle.linked_hash_map.specs.Calls.{placeFrom, placeOf, ReplacingAt, InsertingAt, TakingAt, Putting, Removing}
+use Rattle.linked_hash_map.specs.Calls.{zeros, placeFrom, placeOf, ReplacingAt, InsertingAt, TakingAt, Putting, Removing}
 use Rattle.linked_hash_map.proofs.Keeping.{kept-same, kept-then, kept-replaced, kept-taken, kept-put}
 use Rattle.linked_hash_map.proofs.Probed.{map-fits, free-not-at, full-not-at}
 use Rattle.linked_hash_map.proofs.Putting.{removing-refused, removing-none, removing-at, putting-refused, putting-crowded, putting-at, putting-full, putting-free, grown-kept}
@@ -118,51 +118,58 @@ module _ {ws : List ℕ} {m : LinkedHashMap} where
 
 -- ---- what goes on
 module _ (ws : List ℕ) (m : LinkedHashMap) where
-  pub replacing-at : (s : ℕ) (x : Record) → s < m .capacity → ReplacingAt ws m s x (replaced ws (m .capacity) s x) (recordAt ws s)
-  replacing-at s x b = record {
-    put = λ c e. let o = at-place ws m (x .key) e in putting-at x c s (o .fits) (o .at);
-    kept = kept-replaced (m .capacity) ws s x b;
-  }
+  module _ (f : fit (m .capacity) (length ws) ≡ true) where
+    fits : {A : Type 0} → fit (m .capacity) (length ws) ≡ false → A
+    fits q = absurd (true≢false (sym f ∙ q))
 
-  pub taking-at : (c s : ℕ) → c < cellCount (m .capacity) → TakingAt ws m c s (takenOut ws (m .capacity) c s) (recordAt ws s)
-  taking-at c s b = record {
-    remove = λ k e. let o = at-place ws m k e in removing-at k c s (o .fits) (o .at);
-    kept = kept-taken (m .capacity) ws c s b;
-  }
+    pub replacing-at : (s : ℕ) (x : Record) → s < m .capacity → ReplacingAt ws m s x (replaced ws (m .capacity) s x) (recordAt ws s)
+    replacing-at s x b = record {
+      refused = fits;
+      put = λ c e. let o = at-place ws m (x .key) e in putting-at x c s (o .fits) (o .at);
+      kept = kept-replaced (m .capacity) ws s x b;
+    }
 
-  pub inserting-at : (c : ℕ) (x : Record) {ws′ : List ℕ} {r : LinkedHashMap} → c < cellCount (m .capacity) → Inserting ws m x c ws′ r → InsertingAt ws m c x ws′ r
-  inserting-at c x {ws′} {r} b ins = record {
-    put = λ e g. let o = free-place ws m (x .key) e in putting-free ws m x c (o .fits) (o .at) ws′ r g ins;
-    capacity =
-        by-lt (ring.next ws (m .capacity + 1)) (m .capacity)
-        (λ h. ins .grown h .capacity)
-        (λ h. ap (λ (n : LinkedHashMap). n .capacity) (ins .none h .0));
-    kept =
-        by-lt (ring.next ws (m .capacity + 1)) (m .capacity)
-        (λ h. kept-then (kept-put (m .capacity) ws c (ring.next ws (m .capacity + 1)) x b h) (grown-kept (putIn ws (m .capacity) c (ring.next ws (m .capacity + 1)) x) m (lenAfter m) ws′ r (ins .grown h)))
-        (λ h. rw (ins .none h .1) (kept-same (m .capacity) ws));
-  }
+    pub taking-at : (c s : ℕ) → c < cellCount (m .capacity) → TakingAt ws m c s (takenOut ws (m .capacity) c s) (recordAt ws s)
+    taking-at c s b = record {
+      refused = fits;
+      remove = λ k e. let o = at-place ws m k e in removing-at k c s (o .fits) (o .at);
+      kept = kept-taken (m .capacity) ws c s b;
+    }
 
-  -- a slot or a cell that is no key's: there is no room, or it is past the last
-  module _ {r : Record} where
-    pub replacing-unfit : {s : ℕ} {x : Record} → fit (m .capacity) (length ws) ≡ false → ReplacingAt ws m s x ws r
-    replacing-unfit {s} {x} f = record { put = λ c e. absurd (true≢false (sym (at-place ws m (x .key) e .fits) ∙ f)); kept = kept-same (m .capacity) ws }
+    pub inserting-at : (c : ℕ) (x : Record) {ws′ : List ℕ} {r : LinkedHashMap} → c < cellCount (m .capacity) → Inserting ws m x c ws′ r → InsertingAt ws m c x ws′ r
+    inserting-at c x {ws′} {r} b ins = record {
+      refused = fits;
+      put = λ e g. let o = free-place ws m (x .key) e in putting-free ws m x c (o .fits) (o .at) ws′ r g ins;
+      capacity =
+          by-lt (ring.next ws (m .capacity + 1)) (m .capacity)
+          (λ h. ins .grown h .capacity)
+          (λ h. ap (λ (n : LinkedHashMap). n .capacity) (ins .none h .0));
+      kept =
+          by-lt (ring.next ws (m .capacity + 1)) (m .capacity)
+          (λ h. kept-then (kept-put (m .capacity) ws c (ring.next ws (m .capacity + 1)) x b h) (grown-kept (putIn ws (m .capacity) c (ring.next ws (m .capacity + 1)) x) m (lenAfter m) ws′ r (ins .grown h)))
+          (λ h. rw (ins .none h .1) (kept-same (m .capacity) ws));
+    }
 
-    pub replacing-past : {s : ℕ} {x : Record} → m .capacity ≤ s → ReplacingAt ws m s x ws r
-    replacing-past {s} {x} h = record { put = λ c e. absurd (omega (arith, at-found _ _ _ _ _ (at-place ws m (x .key) e .at) .small)); kept = kept-same (m .capacity) ws }
+    -- a slot or a cell past the last is no key's
+    pub replacing-past : {s : ℕ} {x : Record} → m .capacity ≤ s → ReplacingAt ws m s x ws x
+    replacing-past {s} {x} h = record { refused = fits; put = λ c e. absurd (omega (arith, at-found _ _ _ _ _ (at-place ws m (x .key) e .at) .small)); kept = kept-same (m .capacity) ws }
 
-    pub taking-unfit : {c s : ℕ} → fit (m .capacity) (length ws) ≡ false → TakingAt ws m c s ws r
-    taking-unfit f = record { remove = λ k e. absurd (true≢false (sym (at-place ws m k e .fits) ∙ f)); kept = kept-same (m .capacity) ws }
+    pub taking-past : {c s : ℕ} → m .capacity ≤ s → TakingAt ws m c s ws zeros
+    taking-past h = record { refused = fits; remove = λ k e. absurd (omega (arith, at-found _ _ _ _ _ (at-place ws m k e .at) .small)); kept = kept-same (m .capacity) ws }
 
-    pub taking-past : {c s : ℕ} → m .capacity ≤ s → TakingAt ws m c s ws r
-    taking-past h = record { remove = λ k e. absurd (omega (arith, at-found _ _ _ _ _ (at-place ws m k e .at) .small)); kept = kept-same (m .capacity) ws }
+    pub taking-beyond : {c s : ℕ} → cellCount (m .capacity) ≤ c → TakingAt ws m c s ws zeros
+    taking-beyond h = record { refused = fits; remove = λ k e. absurd (omega (arith, at-found _ _ _ _ _ (at-place ws m k e .at) .cell)); kept = kept-same (m .capacity) ws }
 
-    pub taking-beyond : {c s : ℕ} → cellCount (m .capacity) ≤ c → TakingAt ws m c s ws r
-    taking-beyond h = record { remove = λ k e. absurd (omega (arith, at-found _ _ _ _ _ (at-place ws m k e .at) .cell)); kept = kept-same (m .capacity) ws }
+    pub inserting-beyond : {c : ℕ} {x : Record} → cellCount (m .capacity) ≤ c → InsertingAt ws m c x ws m
+    inserting-beyond {c} {x} h = record { refused = fits; put = λ e g. absurd (omega (arith, free-vacant _ _ _ _ (free-place ws m (x .key) e .at) .cell)); capacity = refl; kept = kept-same (m .capacity) ws }
 
-  module _ {c : ℕ} {x : Record} where
-    pub inserting-unfit : fit (m .capacity) (length ws) ≡ false → InsertingAt ws m c x ws m
-    inserting-unfit f = record { put = λ e g. absurd (true≢false (sym (free-place ws m (x .key) e .fits) ∙ f)); capacity = refl; kept = kept-same (m .capacity) ws }
+  -- with no room there is none at all
+  module _ (f : fit (m .capacity) (length ws) ≡ false) where
+    pub replacing-unfit : {s : ℕ} {x : Record} → ReplacingAt ws m s x ws x
+    replacing-unfit {s} {x} = record { refused = λ _. (refl, refl); put = λ c e. absurd (true≢false (sym (at-place ws m (x .key) e .fits) ∙ f)); kept = kept-same (m .capacity) ws }
 
-    pub inserting-beyond : cellCount (m .capacity) ≤ c → InsertingAt ws m c x ws m
-    inserting-beyond h = record { put = λ e g. absurd (omega (arith, free-vacant _ _ _ _ (free-place ws m (x .key) e .at) .cell)); capacity = refl; kept = kept-same (m .capacity) ws }
+    pub taking-unfit : {c s : ℕ} → TakingAt ws m c s ws zeros
+    taking-unfit = record { refused = λ _. (refl, refl); remove = λ k e. absurd (true≢false (sym (at-place ws m k e .fits) ∙ f)); kept = kept-same (m .capacity) ws }
+
+    pub inserting-unfit : {c : ℕ} {x : Record} → InsertingAt ws m c x ws m
+    inserting-unfit {c} {x} = record { refused = λ _. (refl, refl); put = λ e g. absurd (true≢false (sym (free-place ws m (x .key) e .fits) ∙ f)); capacity = refl; kept = kept-same (m .capacity) ws }

@@ -115,17 +115,20 @@ placeOf ws m k = cond (fit (m .capacity) (length ws)) (placeFrom (probe ws (m .c
 
 -- `replace_at`: what `put` does where its key is at a slot
 pub record ReplacingAt (ws : List ℕ) (m : LinkedHashMap) (s : ℕ) (x : Record) (ws′ : List ℕ) (r : Record) : Type 0 where
+  pub refused : fit (m .capacity) (length ws) ≡ false → (r ≡ x) × (ws′ ≡ ws)
   pub put : (c : ℕ) → placeOf ws m (x .key) ≡ place.At c s → Putting ws m x ws′ (record { map = m; answer = placed.Replaced r })
   pub kept : Kept (m .capacity) ws ws′
 
 -- `insert_at`: where its key is new, and there are fewer records than the capacity
 pub record InsertingAt (ws : List ℕ) (m : LinkedHashMap) (c : ℕ) (x : Record) (ws′ : List ℕ) (r : LinkedHashMap) : Type 0 where
+  pub refused : fit (m .capacity) (length ws) ≡ false → (r ≡ m) × (ws′ ≡ ws)
   pub put : placeOf ws m (x .key) ≡ place.Free c → m .len < m .capacity → Putting ws m x ws′ (record { map = r; answer = placed.Inserted })
   pub capacity : r .capacity ≡ m .capacity
   pub kept : Kept (m .capacity) ws ws′
 
 -- `take_at`: what `remove` does where its key is at a cell and a slot
 pub record TakingAt (ws : List ℕ) (m : LinkedHashMap) (c s : ℕ) (ws′ : List ℕ) (r : Record) : Type 0 where
+  pub refused : fit (m .capacity) (length ws) ≡ false → (r ≡ zeros) × (ws′ ≡ ws)
   pub remove : (k : ℕ) → placeOf ws m k ≡ place.At c s → Removing ws m k ws′ (record { map = shrunkMap m; answer = taken.Record r })
   pub kept : Kept (m .capacity) ws ws′
 

@@ -11,7 +11,7 @@ replace-at-spec =
     (tie.spec
     (λ c κs. search needs)
     (λ c. replacing-unfit _ _ (no-room (c .before .has-room .ensures) (c .if1 .taken)))
-    (λ c. replacing-past _ _ (c .if2 .taken))
+    (λ c. replacing-past _ _ (room (c .before .before .has-room .ensures) (c .before .if1 .left)) (c .if2 .taken))
     (λ c κs. (is-room _ _ (room (c .before .before .before .has-room .ensures) (c .before .before .if1 .left)), omega arith))
     (λ c. search needs)
-    (λ c. let m = c .before .before in rw (m .replace .ensures .0, m .replace .ensures .1) (replacing-at _ _ _ _ (omega arith))))
+    (λ c. let m = c .before .before in rw (m .replace .ensures .0, m .replace .ensures .1) (replacing-at _ _ (room (c .before .before .before .before .before .before .has-room .ensures) (c .before .before .before .before .before .if1 .left)) _ _ (omega arith))))
