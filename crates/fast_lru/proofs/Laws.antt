@@ -5,13 +5,11 @@ use Prim.Native.Nat.{ℕ, _+_, _<_, _≤_}
 use native.Mathlib.Omega.{arith}
 use lib.ListN.{length, getD, drop, length-drop}
 use lib.Seq.{ext-getD, getD-drop}
-use Rattle.linked_hash_map.specs.Map as map
 use Rattle.linked_hash_map.proofs.Laws as laws
 use Rattle.fast_lru.specs.declared.lru.FastLru.{FastLru}
 use Rattle.fast_lru.specs.Refusals.{wordsFor}
 use Rattle.fast_lru.specs.Model.{Distinct}
 use Rattle.fast_lru.specs.Lru.{IsList, items, modelOf, Kept}
-use Rattle.fast_lru.proofs.Items.{distinct-items}
 use Rattle.fast_lru.proofs.Slots as slots
 
 -- the model has as many items as the numbers say
@@ -26,8 +24,7 @@ module _ {ws : List ℕ} {l : FastLru} (is : IsList ws l) where
   model-bounded = omega (arith, slots.model-length ws l, is .map .count)
 
   pub model-distinct : Distinct (modelOf ws l)
-  unfolding modelOf
-  model-distinct = distinct-items (map.modelOf ws (l .map)) (laws.map-distinct (is .map))
+  model-distinct = slots.model-distinct ws l (is .map)
 
   -- words past the list's own do not matter
   module _ (ws′ : List ℕ) (fits : wordsFor (l .map .capacity) ≤ length ws′) (same : (j : ℕ) → j < wordsFor (l .map .capacity) → getD ws′ j 0 ≡ getD ws j 0) where

@@ -5,10 +5,9 @@ use mathlib.Core.List.{[], _∷_}
 use mathlib.Core.Option.{Option, none, some}
 use Prim.Native.Nat.{ℕ, zero, suc, _+_, _-_, _<_, _≤_}
 use native.Mathlib.Nat.{not-suc-le-zero, le-of-suc-le-suc}
-use native.Mathlib.Numerals.{add-one}
 use native.Mathlib.Omega.{arith}
 use lib.Dec.{eqb}
-use lib.ListN.{length, drop}
+use lib.ListN.{length}
 use borrow.Author.Tests.{eq-eqb, ne-eqb, eqb-true, eqb-false, lt-ltb, le-ltb}
 use Rattle.fast_lru.specs.declared.answers.Found.the-variants as found
 use Rattle.fast_lru.specs.declared.answers.Rank.the-variants as rank
@@ -30,39 +29,37 @@ last-nth (x ∷ (y ∷ l)) =
     let e : length (x ∷ (y ∷ l)) - 1 ≡ suc (length (y ∷ l) - 1) = omega arith in
     last-nth (y ∷ l) ∙ ap (λ (n : ℕ). nth n (x ∷ (y ∷ l))) (sym e)
 
--- ---- ranks: what a walk has still to pass
-drop-nth : (i : ℕ) (l : Items) (x : Item) → nth i l ≡ some x → drop i l ≡ x ∷ drop (i + 1) l
-unfolding nth
-drop-nth i [] x e = absurd (let z : _≡_ {A = ℕ} 0 1 = cc in omega arith)
-drop-nth zero (y ∷ l) x e = let s : y ≡ x = cc in ap (λ (z : Item). z ∷ l) s
-drop-nth (suc i) (y ∷ l) x e = drop-nth i l x e ∙ rw (add-one i, add-one (suc i))
-
-pub rank-here : (k i : ℕ) (l : Items) (x : Item) → nth i l ≡ some x → x .key ≡ k → rankFrom i k (drop i l) ≡ rank.At i
-unfolding rankFrom
-rank-here k i l x e h = rw (drop-nth i l x e, eq-eqb (x .key) k h)
-
-pub rank-on : (k i : ℕ) (l : Items) (x : Item) → nth i l ≡ some x → (x .key ≡ k → ⊥) → rankFrom i k (drop i l) ≡ rankFrom (i + 1) k (drop (i + 1) l)
-unfolding rankFrom
-rank-on k i l x e h = rw (drop-nth i l x e, ne-eqb (x .key) k h)
-
-drop-past : (i : ℕ) (l : Items) → length l ≤ i → drop i l ≡ []
-drop-past zero [] h = refl
-drop-past (suc i) [] h = refl
-drop-past zero (x ∷ l) h = absurd (not-suc-le-zero h)
-drop-past (suc i) (x ∷ l) h = drop-past i l (le-of-suc-le-suc h)
-
-pub rank-past : (k i : ℕ) (l : Items) → length l ≤ i → rankFrom i k (drop i l) ≡ rank.Nothing
-unfolding rankFrom
-rank-past k i l h = rw (drop-past i l h)
-
-pub rank-absent : (n k : ℕ) (l : Items) → has k l ≡ false → rankFrom n k l ≡ rank.Nothing
-unfolding rankFrom has
-rank-absent n k [] h = refl
-rank-absent n k (x ∷ l) h = go (eqb (x .key) k) h (rank-absent (n + 1) k l)
+pub nth-has : (i : ℕ) (l : Items) (x : Item) → nth i l ≡ some x → has (x .key) l ≡ true
+unfolding nth has
+nth-has i [] x e = absurd (let z : _≡_ {A = ℕ} 0 1 = cc in omega arith)
+nth-has zero (y ∷ l) x e = let s : y ≡ x = cc in rw (eq-eqb (y .key) (x .key) (ap (λ (z : Item). z .key) s))
+nth-has (suc i) (y ∷ l) x e = rw (nth-has i l x e) (any (eqb (y .key) (x .key)))
   where
-    go : (b : Bool) → (b || has k l) ≡ false → (has k l ≡ false → rankFrom (n + 1) k l ≡ rank.Nothing) → cond b (rank.At n) (rankFrom (n + 1) k l) ≡ rank.Nothing
-    go true q ih = absurd (true≢false q)
-    go false q ih = ih q
+    any : (b : Bool) → (b || true) ≡ true
+    any true = refl
+    any false = refl
+
+-- ---- ranks
+-- no two items have one key, so where it stands is its rank
+pub rank-there : (n m k i : ℕ) (l : Items) (x : Item) → m ≡ n + i → Distinct l → nth i l ≡ some x → x .key ≡ k → rankFrom n k l ≡ rank.At m
+unfolding nth rankFrom
+rank-there n m k i [] x q d e h = absurd (let z : _≡_ {A = ℕ} 0 1 = cc in omega arith)
+rank-there n m k zero (y ∷ l) x q d e h =
+    let s : y ≡ x = cc in
+    let here : n ≡ m = omega arith in
+    rw (eq-eqb (y .key) k (ap (λ (z : Item). z .key) s ∙ h)) (ap rank.At here)
+rank-there n m k (suc i) (y ∷ l) x q (new, d) e h =
+    let other : y .key ≡ k → ⊥ = λ p. true≢false (sym (nth-has i l x e) ∙ ap (λ (j : ℕ). has j l) (h ∙ sym p) ∙ new) in
+    rw (ne-eqb (y .key) k other) (rank-there (n + 1) m k i l x (omega arith) d e h)
+
+-- wherever an item of a key stands, its place is one of these
+abbrev pub Within : ℕ → Items → (ℕ → Type 0) → Type 0
+Within k l P = (i : ℕ) (x : Item) → i < length l → nth i l ≡ some x → x .key ≡ k → P i
+
+pub rank-nowhere : (n k : ℕ) (l : Items) → Within k l (λ i. ⊥) → rankFrom n k l ≡ rank.Nothing
+unfolding nth rankFrom
+rank-nowhere n k [] bare = refl
+rank-nowhere n k (x ∷ l) bare = rw (ne-eqb (x .key) k (bare 0 x (omega arith) refl)) (rank-nowhere (n + 1) k l (λ i y h. bare (suc i) y (omega arith)))
 
 -- ---- keys
 -- a key has an item, a value and a place exactly where it is stored
@@ -163,14 +160,7 @@ shorter-without k (x ∷ l) h = go (eqb (x .key) k) h (shorter-without k l) (len
 
 -- the last item is stored
 pub last-has : (l : Items) (i : Item) → last l ≡ some i → has (i .key) l ≡ true
-unfolding last has
-last-has [] i e = absurd (let z : _≡_ {A = ℕ} 0 1 = cc in omega arith)
-last-has (x ∷ []) i e = let s : x ≡ i = cc in rw (eq-eqb (x .key) (i .key) (ap (λ (y : Item). y .key) s))
-last-has (x ∷ (y ∷ l)) i e = rw (last-has (y ∷ l) i e) (any (eqb (x .key) (i .key)))
-  where
-    any : (b : Bool) → (b || true) ≡ true
-    any true = refl
-    any false = refl
+last-has l i e = nth-has (length l - 1) l i (sym (last-nth l) ∙ e)
 
 -- a list with no last item is empty
 last-none : (l : Items) → last l ≡ none → length l ≡ 0

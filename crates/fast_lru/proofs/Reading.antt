@@ -2,10 +2,11 @@
 use mathlib.Core.Path.{_≡_, refl, sym, ap, _∙_}
 use mathlib.Core.Bool.{Bool, true, false, true≢false}
 use mathlib.Core.List.{List}
-use Prim.Native.Nat.{ℕ, _+_, _<_}
+use mathlib.Core.Option.{some}
+use Prim.Native.Nat.{ℕ, _+_, _-_, _<_, _≤_}
 use native.Mathlib.Omega.{arith}
 use lib.Dec.{eqb}
-use lib.ListN.{length, drop}
+use lib.ListN.{length}
 use borrow.Author.Tests.{eq-eqb, ne-eqb}
 use Rattle.time.specs.declared.refusal.Refusal.{Refusal}
 use Rattle.time.specs.declared.refusal.Outcome.the-variants.{Done, Refused}
@@ -27,13 +28,13 @@ use Rattle.fast_lru.specs.declared.answers.Told.{Told}
 use Rattle.fast_lru.specs.declared.answers.Told.the-variants as told
 use Rattle.fast_lru.specs.declared.answers.Count.the-variants as count
 use Rattle.fast_lru.specs.Refusals.{admitted}
-use Rattle.fast_lru.specs.Model.{tell, rankFrom, rankOf}
-use Rattle.fast_lru.specs.Lru.{modelOf}
-use Rattle.fast_lru.specs.Steps.{isAt, ValueAt, Picking, RankFrom, RankOf}
+use Rattle.fast_lru.specs.Model.{Item, has, tell, rankOf}
+use Rattle.fast_lru.specs.Lru.{itemOf, modelOf}
+use Rattle.fast_lru.specs.Steps.{nth, isAt, ValueAt, Picking, RankBetween, RankOf}
 use Rattle.fast_lru.specs.Calls.{Length, Emptiness, Capacity, Containing, Peeking, PeekingOldest, Ranking, Checking}
-use Rattle.fast_lru.proofs.Lists.{rank-here, rank-on, rank-past, rank-absent}
+use Rattle.fast_lru.proofs.Lists.{Within, nth-has, rank-there, rank-nowhere}
 use Rattle.fast_lru.proofs.Limits.{done, admitted-fits, list-admitted}
-use Rattle.fast_lru.proofs.Slots.{model-length, place-item, place-past, has-slot}
+use Rattle.fast_lru.proofs.Slots.{model-length, model-distinct, place-item, place-past, has-slot}
 
 -- an answer is no refusal
 pub told-never : (b : Bool) (why : Refusal) → tell b ≡ told.Refused why → ⊥
@@ -128,47 +129,87 @@ module _ {ws : List ℕ} {l : FastLru} (d : admitted l (length ws) ≡ Done) whe
   pub checking : (r : Bool) → calls.Checking ws (l .map) r → Checking ws l r
   checking r c = record { sound = λ e. record { map = c .sound e; words = admitted-fits l (length ws) d .words }; complete = λ is. c .complete (is .map) }
 
--- ---- ranks: what the walk has passed was another key's
--- the walk stands at the i-th item, and what it has still to pass tells the rank
-pub record Walk (ws : List ℕ) (l : FastLru) (k s i : ℕ) : Type 0 where
-  pub at : slotAt ws (l .map) i ≡ slot.At s
-  pub left : rankOf k (modelOf ws l) ≡ rankFrom i k (drop i (modelOf ws l))
+-- ---- ranks: what the two walks have passed is other keys'
+-- the walks stand at the i-th item and at the one before the j-th, and the key's can only be between
+pub record Walks (ws : List ℕ) (l : FastLru) (k s t i j : ℕ) : Type 0 where
+  pub front : slotAt ws (l .map) i ≡ slot.At s
+  pub back : (p : ℕ) → p + 1 ≡ j → slotAt ws (l .map) p ≡ slot.At t
+  pub between : Within k (modelOf ws l) (λ p. (i ≤ p) × (p < j))
 
 pub rank-never : (why : Refusal) → rank.Nothing ≡ rank.Refused why → ⊥
 rank-never why e = let z : _≡_ {A = ℕ} 0 1 = cc in omega arith
 
 module _ (ws : List ℕ) (l : FastLru) (k : ℕ) where
-  pub walk-first : (s : ℕ) → slotAt ws (l .map) 0 ≡ slot.At s → Walk ws l k s 0
+  rank-none : Within k (modelOf ws l) (λ p. ⊥) → rank.Nothing ≡ rankOf k (modelOf ws l)
   unfolding rankOf
-  walk-first s e = record { at = e; left = refl }
+  rank-none bare = sym (rank-nowhere 0 k (modelOf ws l) bare)
 
-  module _ (s i : ℕ) (is : IsMap ws (l .map)) (w : Walk ws l k s i) where
-    pub walk-below : i < l .map .capacity
-    walk-below = omega (arith, laws.place-below ws (l .map) i s (w .at), is .count)
+  -- the place of a slot is the rank of the key there, and of no other
+  module _ (s p : ℕ) (is : IsMap ws (l .map)) (at : slotAt ws (l .map) p ≡ slot.At s) (r : Record) (h : calls.Reading ws (l .map) s r) where
+    item : nth p (modelOf ws l) ≡ some (itemOf r)
+    item = place-item ws l p (taken.Record r) (h .placed is p at)
 
-    module _ (r : Record) (h : calls.Reading ws (l .map) s r) where
-      pub walk-found : r .key ≡ k → rank.At i ≡ rankOf k (modelOf ws l)
-      walk-found e = sym (w .left ∙ rank-here k i (modelOf ws l) _ (place-item ws l i (taken.Record r) (h .placed is i (w .at))) e)
+    pub rank-found : r .key ≡ k → rank.At p ≡ rankOf k (modelOf ws l)
+    unfolding rankOf
+    rank-found e = sym (rank-there 0 p k p (modelOf ws l) (itemOf r) (omega arith) (model-distinct ws l is) item e)
 
-      passed : (r .key ≡ k → ⊥) → rankOf k (modelOf ws l) ≡ rankFrom (i + 1) k (drop (i + 1) (modelOf ws l))
-      passed ne = w .left ∙ rank-on k i (modelOf ws l) _ (place-item ws l i (taken.Record r) (h .placed is i (w .at))) ne
+    elsewhere : (r .key ≡ k → ⊥) → Within k (modelOf ws l) (λ q. q ≡ p → ⊥)
+    elsewhere ne q x b e m z =
+        let same : some (itemOf r) ≡ some x = sym item ∙ ap (λ (n : ℕ). nth n (modelOf ws l)) (sym z) ∙ e in
+        let one : itemOf r ≡ x = cc in
+        ne (ap (λ (y : Item). y .key) one ∙ m)
 
-      module _ (ne : r .key ≡ k → ⊥) (x : Slot) (n : calls.Next ws (l .map) s x) where
-        pub walk-next : (t : ℕ) → x ≡ slot.At t → Walk ws l k t (i + 1)
-        walk-next t e = record { at = sym (n .answer is i (w .at)) ∙ e; left = passed ne }
+  pub walks-begin : (s t : ℕ) → slotAt ws (l .map) 0 ≡ slot.At s → slotAt ws (l .map) (l .map .len - 1) ≡ slot.At t → Walks ws l k s t 0 (l .map .len)
+  walks-begin s t e f = record {
+    front = e;
+    back = λ p q. let last : p ≡ l .map .len - 1 = omega arith in rw last f;
+    between = λ p x b n m. omega (arith, model-length ws l);
+  }
 
-        pub walk-end : ((t : ℕ) → x ≡ slot.At t → ⊥) → rank.Nothing ≡ rankOf k (modelOf ws l)
-        walk-end bare = sym (passed ne ∙ rank-past k (i + 1) (modelOf ws l) (omega (arith, place-past ws l (i + 1) x bare (sym (n .answer is i (w .at))), model-length ws l)))
+  module _ (s t i j : ℕ) (is : IsMap ws (l .map)) (w : Walks ws l k s t i j) where
+    pub walks-met : j ≤ i → rank.Nothing ≡ rankOf k (modelOf ws l)
+    walks-met h = rank-none (λ p x b n m. omega (arith, w .between p x b n m))
+
+    -- a turn in which neither item has the key
+    module _ (apart : i < j) (a : Record) (front : calls.Reading ws (l .map) s a) (na : a .key ≡ k → ⊥) (b : Record) (back : calls.Reading ws (l .map) t b) (nb : b .key ≡ k → ⊥) where
+      last : slotAt ws (l .map) (j - 1) ≡ slot.At t
+      last = w .back (j - 1) (omega arith)
+
+      inside : Within k (modelOf ws l) (λ p. (i < p) × (p < j - 1))
+      inside p x h n m =
+          let f : p ≡ i → ⊥ = elsewhere s i is (w .front) a front na p x h n m in
+          let g : p ≡ j - 1 → ⊥ = elsewhere t (j - 1) is last b back nb p x h n m in
+          omega (arith, w .between p x h n m)
+
+      module _ (x : Slot) (next : calls.Next ws (l .map) s x) where
+        after : slotAt ws (l .map) (i + 1) ≡ x
+        after = sym (next .answer is i (w .front))
+
+        pub front-end : ((u : ℕ) → x ≡ slot.At u → ⊥) → rank.Nothing ≡ rankOf k (modelOf ws l)
+        front-end bare = rank-none (λ p y h n m. omega (arith, inside p y h n m, model-length ws l, place-past ws l (i + 1) x bare after))
+
+        module _ (z : Slot) (previous : calls.Previous ws (l .map) t z) where
+          before : (p : ℕ) → p + 1 ≡ j - 1 → slotAt ws (l .map) p ≡ z
+          before p q = sym (previous .answer is p (rw q last))
+
+          pub back-end : ((v : ℕ) → z ≡ slot.At v → ⊥) → rank.Nothing ≡ rankOf k (modelOf ws l)
+          back-end bare = rank-none (λ p y h n m.
+              let r : (i < p) × (p < j - 1) = inside p y h n m in
+              omega (arith, laws.place-below ws (l .map) (j - 1) t last, place-past ws l (j - 2) z bare (before (j - 2) (omega arith))))
+
+          pub walks-on : (u v : ℕ) → x ≡ slot.At u → z ≡ slot.At v → Walks ws l k u v (i + 1) (j - 1)
+          walks-on u v e f = record { front = after ∙ e; back = λ p q. before p q ∙ f; between = λ p y h n m. omega (arith, inside p y h n m) }
 
   -- a missing key has no rank, and is not walked for
   pub rank-missing : (x : Slot) → calls.Finding ws (l .map) k x → isAt x ≡ false → RankOf ws l k rank.Nothing
-  unfolding rankOf
-  rank-missing x f e = record { never = rank-never; answer = λ is. sym (rank-absent 0 k (modelOf ws l) (has-slot ws l k ∙ ap isAt (sym (f .answer is)) ∙ e)) }
+  rank-missing x f e = record {
+    never = rank-never;
+    answer = λ is. rank-none (λ p y b n m. true≢false (sym (nth-has p (modelOf ws l) y n) ∙ ap (λ (j : ℕ). has j (modelOf ws l)) m ∙ has-slot ws l k ∙ ap isAt (sym (f .answer is)) ∙ e));
+  }
 
-  module _ (x : Slot) (first : calls.Ending ws (l .map) 0 x) where
-    pub rank-first : (s : ℕ) (r : Rank) → x ≡ slot.At s → RankFrom ws l k s r → RankOf ws l k r
-    rank-first s r e f = record { never = f .never; answer = λ is. f .answer is (sym (first .answer is) ∙ e) }
+  -- a list with no first item, or no last one, is empty
+  pub rank-no-end : (x : Slot) (p : ℕ) → p ≤ l .map .len - 1 → calls.Ending ws (l .map) p x → ((s : ℕ) → x ≡ slot.At s → ⊥) → RankOf ws l k rank.Nothing
+  rank-no-end x p low end bare = record { never = rank-never; answer = λ is. rank-none (λ q y b n m. omega (arith, model-length ws l, place-past ws l p x bare (sym (end .answer is)))) }
 
-    pub rank-first-none : ((s : ℕ) → x ≡ slot.At s → ⊥) → RankOf ws l k rank.Nothing
-    unfolding rankOf
-    rank-first-none bare = record { never = rank-never; answer = λ is. sym (rank-past k 0 (modelOf ws l) (omega (arith, place-past ws l 0 x bare (sym (first .answer is)), model-length ws l))) }
+  pub rank-ends : (x z : Slot) (s t : ℕ) (r : Rank) → calls.Ending ws (l .map) 0 x → calls.Ending ws (l .map) (l .map .len - 1) z → x ≡ slot.At s → z ≡ slot.At t → RankBetween ws l k s t r → RankOf ws l k r
+  rank-ends x z s t r first last e f b = record { never = b .never; answer = λ is. b .answer is (sym (first .answer is) ∙ e) (sym (last .answer is) ∙ f) }

@@ -21,10 +21,10 @@ use Rattle.fast_lru.specs.declared.lru.FastLru.{FastLru}
 use Rattle.fast_lru.specs.declared.answers.Found.the-variants as found
 use Rattle.fast_lru.specs.declared.answers.Oldest.{Oldest}
 use Rattle.fast_lru.specs.declared.answers.Oldest.the-variants as oldest
-use Rattle.fast_lru.specs.Model.{has, valueIn, itemIn, valueOf, victim, oldestOf}
+use Rattle.fast_lru.specs.Model.{has, valueIn, itemIn, valueOf, victim, oldestOf, Distinct}
 use Rattle.fast_lru.specs.Lru.{modelOf}
 use Rattle.fast_lru.specs.Steps.{nth, taking, isAt, ValueAt, ItemAt, Picking, Choosing}
-use Rattle.fast_lru.proofs.Items.{length-items, lookup-items, has-items, nth-items}
+use Rattle.fast_lru.proofs.Items.{length-items, lookup-items, has-items, nth-items, distinct-items}
 use Rattle.fast_lru.proofs.Lists.{nth-past, last-nth}
 
 -- what is no slot
@@ -39,6 +39,10 @@ module _ (ws : List ℕ) (l : FastLru) where
   pub model-length : length (modelOf ws l) ≡ l .map .len
   unfolding modelOf
   model-length = length-items (map.modelOf ws (l .map)) ∙ putting.model-length ws (l .map)
+
+  pub model-distinct : map.IsMap ws (l .map) → Distinct (modelOf ws l)
+  unfolding modelOf
+  model-distinct is = distinct-items (map.modelOf ws (l .map)) (laws.map-distinct is)
 
   pub key-value : (k : ℕ) (t : Taken) → held.lookup k (map.modelOf ws (l .map)) ≡ t → valueOf k (modelOf ws l) ≡ valueIn (taking t)
   unfolding valueOf modelOf

@@ -3,7 +3,7 @@ use mathlib.Core.Path.{_≡_}
 use mathlib.Core.Bool.{Bool, true, false}
 use mathlib.Core.List.{List, [], _∷_}
 use mathlib.Core.Option.{Option, none, some}
-use Prim.Native.Nat.{ℕ, zero, suc, _≤_}
+use Prim.Native.Nat.{ℕ, zero, suc, _-_, _≤_}
 use lib.ListN.{length}
 use Rattle.time.specs.declared.refusal.Refusal.{Refusal}
 use Rattle.linked_hash_map.specs.declared.map.Record.{Record}
@@ -94,12 +94,12 @@ pub record Placing (ws : List ℕ) (l : FastLru) (x : Record) (ws′ : List ℕ)
   pub model : IsMap ws (l .map) → modelOf ws′ (r .lru) ≡ inserted (l .map .capacity) (itemOf x) (modelOf ws l)
   pub kept : words.Kept (l .map .capacity) ws ws′
 
--- `rank_from`: the walk from the first item's slot
-pub record RankFrom (ws : List ℕ) (l : FastLru) (k s : ℕ) (r : Rank) : Type 0 where
+-- `rank_between`: the walks from the first item's slot and from the last one's
+pub record RankBetween (ws : List ℕ) (l : FastLru) (k s t : ℕ) (r : Rank) : Type 0 where
   pub never : (why : Refusal) → r ≡ rank.Refused why → ⊥
-  pub answer : IsMap ws (l .map) → slotAt ws (l .map) 0 ≡ slot.At s → r ≡ rankOf k (modelOf ws l)
+  pub answer : IsMap ws (l .map) → slotAt ws (l .map) 0 ≡ slot.At s → slotAt ws (l .map) (l .map .len - 1) ≡ slot.At t → r ≡ rankOf k (modelOf ws l)
 
--- `rank_of` and `rank_from_first`
+-- `rank_of` and `rank_from_ends`
 pub record RankOf (ws : List ℕ) (l : FastLru) (k : ℕ) (r : Rank) : Type 0 where
   pub never : (why : Refusal) → r ≡ rank.Refused why → ⊥
   pub answer : IsMap ws (l .map) → r ≡ rankOf k (modelOf ws l)

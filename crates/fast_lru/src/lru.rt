@@ -4,7 +4,7 @@ ghost use Rattle.fast_lru.specs.Refusals.{outOfRange, admitted};
 ghost use Rattle.fast_lru.specs.Refusals as refusals;
 ghost use Rattle.fast_lru.specs.Model.{tell};
 ghost use Rattle.fast_lru.specs.Calls.{Opening, Clearing, Length, Emptiness, Capacity, Containing, Getting, Peeking, Inserting, Removing, Popping, PeekingOldest, Touching, Ranking, Checking};
-ghost use Rattle.fast_lru.specs.Steps.{isAt, ValueAt, ItemAt, Picking, Choosing, Taking, PlacingFull, Placing, RankFrom, RankOf};
+ghost use Rattle.fast_lru.specs.Steps.{isAt, ValueAt, ItemAt, Picking, Choosing, Taking, PlacingFull, Placing, RankBetween, RankOf};
 use crate::answers::Count;
 use crate::answers::Found;
 use crate::answers::Got;
@@ -453,38 +453,65 @@ impl FastLru {
     {
         let map = self.map;
         match map.find(words, key) {
-            Slot::At(_) => self.rank_from_first(words, key),
+            Slot::At(_) => self.rank_from_ends(words, key),
             Slot::Nothing => Rank::Nothing,
             Slot::Refused => Rank::Nothing,
         }
     }
 
-    fn rank_from_first(self, words: &[u64], key: u64) -> Rank
+    // From both ends at once: two walks side by side take no longer than one, and the shorter has half the way at most.
+    fn rank_from_ends(self, words: &[u64], key: u64) -> Rank
         ensures { λ r. ⌜ RankOf (now (words .entry)) self key r ⌝ }
     {
         let map = self.map;
         match map.first(words) {
-            Slot::At(s) => self.rank_from(words, key, s),
+            Slot::At(s) => match map.last(words) {
+                Slot::At(t) => self.rank_between(words, key, s, t),
+                Slot::Nothing => Rank::Nothing,
+                Slot::Refused => Rank::Nothing,
+            },
             Slot::Nothing => Rank::Nothing,
             Slot::Refused => Rank::Nothing,
         }
     }
 
-    // Walks from the first item's slot.
-    fn rank_from(self, words: &[u64], key: u64, first: usize) -> Rank
-        ensures { λ r. ⌜ RankFrom (now (words .entry)) self key first r ⌝ }
+    // Walks from the first item's slot and from the last one's until they meet. (Numbers that are no list's may say more
+    // items than there is room for: those are not walked.)
+    fn rank_between(self, words: &[u64], key: u64, first: usize, last: usize) -> Rank
+        ensures { λ r. ⌜ RankBetween (now (words .entry)) self key first last r ⌝ }
     {
         let map = self.map;
-        let mut slot = first;
+        if map.capacity < map.len {
+            return Rank::Nothing;
+        }
+        let mut front = first;
+        let mut back = last;
         let mut rank = 0;
-        while rank < map.capacity {
-            let record = map.record(words, slot);
-            if record.key == key {
+        let mut end = map.len;
+        while rank < end {
+            let back_rank = end - 1;
+            let newer = map.record(words, front);
+            if newer.key == key {
                 return Rank::At(rank);
             }
-            match map.next(words, slot) {
+            let older = map.record(words, back);
+            if older.key == key {
+                return Rank::At(back_rank);
+            }
+            match map.next(words, front) {
                 Slot::At(s) => {
-                    slot = s;
+                    front = s;
+                }
+                Slot::Nothing => {
+                    return Rank::Nothing;
+                }
+                Slot::Refused => {
+                    return Rank::Nothing;
+                }
+            }
+            match map.previous(words, back) {
+                Slot::At(s) => {
+                    back = s;
                 }
                 Slot::Nothing => {
                     return Rank::Nothing;
@@ -494,6 +521,7 @@ impl FastLru {
                 }
             }
             rank += 1;
+            end = back_rank;
         }
         Rank::Nothing
     }
