@@ -129,21 +129,10 @@ module _ (ws : List ℕ) (m : LinkedHashMap) where
       kept = kept-replaced (m .capacity) ws s x b;
     }
 
-    pub taking-at : (c s : ℕ) → c < cellCount (m .capacity) → TakingAt ws m c s (takenOut ws (m .capacity) c s) (recordAt ws s)
-    taking-at c s b = record {
-      refused = fits;
-      remove = λ k e. let o = at-place ws m k e in removing-at k c s (o .fits) (o .at);
-      kept = kept-taken (m .capacity) ws c s b;
-    }
-
-    pub inserting-at : (c : ℕ) (x : Record) {ws′ : List ℕ} {r : LinkedHashMap} → c < cellCount (m .capacity) → Inserting ws m x c ws′ r → InsertingAt ws m c x ws′ r
+    pub inserting-at : (c : ℕ) (x : Record) {ws′ : List ℕ} {r : LinkedHashMap} → c < cellCount (m .capacity) → Inserting ws m x c ws′ r → InsertingAt ws m c x ws′ (r .«refill_in»)
     inserting-at c x {ws′} {r} b ins = record {
       refused = fits;
       put = λ e g. let o = free-place ws m (x .key) e in putting-free ws m x c (o .fits) (o .at) ws′ r g ins;
-      capacity =
-          by-lt (ring.next ws (m .capacity + 1)) (m .capacity)
-          (λ h. ins .grown h .capacity)
-          (λ h. ap (λ (n : LinkedHashMap). n .capacity) (ins .none h .0));
       kept =
           by-lt (ring.next ws (m .capacity + 1)) (m .capacity)
           (λ h. kept-then (kept-put (m .capacity) ws c (ring.next ws (m .capacity + 1)) x b h) (grown-kept (putIn ws (m .capacity) c (ring.next ws (m .capacity + 1)) x) m (lenAfter m) ws′ r (ins .grown h)))
@@ -154,22 +143,37 @@ module _ (ws : List ℕ) (m : LinkedHashMap) where
     pub replacing-past : {s : ℕ} {x : Record} → m .capacity ≤ s → ReplacingAt ws m s x ws x
     replacing-past {s} {x} h = record { refused = fits; put = λ c e. absurd (omega (arith, at-found _ _ _ _ _ (at-place ws m (x .key) e .at) .small)); kept = kept-same (m .capacity) ws }
 
-    pub taking-past : {c s : ℕ} → m .capacity ≤ s → TakingAt ws m c s ws zeros
-    taking-past h = record { refused = fits; remove = λ k e. absurd (omega (arith, at-found _ _ _ _ _ (at-place ws m k e .at) .small)); kept = kept-same (m .capacity) ws }
-
-    pub taking-beyond : {c s : ℕ} → cellCount (m .capacity) ≤ c → TakingAt ws m c s ws zeros
-    taking-beyond h = record { refused = fits; remove = λ k e. absurd (omega (arith, at-found _ _ _ _ _ (at-place ws m k e .at) .cell)); kept = kept-same (m .capacity) ws }
-
-    pub inserting-beyond : {c : ℕ} {x : Record} → cellCount (m .capacity) ≤ c → InsertingAt ws m c x ws m
-    inserting-beyond {c} {x} h = record { refused = fits; put = λ e g. absurd (omega (arith, free-vacant _ _ _ _ (free-place ws m (x .key) e .at) .cell)); capacity = refl; kept = kept-same (m .capacity) ws }
+    pub inserting-beyond : {c : ℕ} {x : Record} → cellCount (m .capacity) ≤ c → InsertingAt ws m c x ws (m .«refill_in»)
+    inserting-beyond {c} {x} h = record { refused = fits; put = λ e g. absurd (omega (arith, free-vacant _ _ _ _ (free-place ws m (x .key) e .at) .cell)); kept = kept-same (m .capacity) ws }
 
   -- with no room there is none at all
   module _ (f : fit (m .capacity) (length ws) ≡ false) where
     pub replacing-unfit : {s : ℕ} {x : Record} → ReplacingAt ws m s x ws x
     replacing-unfit {s} {x} = record { refused = λ _. (refl, refl); put = λ c e. absurd (true≢false (sym (at-place ws m (x .key) e .fits) ∙ f)); kept = kept-same (m .capacity) ws }
 
-    pub taking-unfit : {c s : ℕ} → TakingAt ws m c s ws zeros
-    taking-unfit = record { refused = λ _. (refl, refl); remove = λ k e. absurd (true≢false (sym (at-place ws m k e .fits) ∙ f)); kept = kept-same (m .capacity) ws }
+    pub inserting-unfit : {c : ℕ} {x : Record} → InsertingAt ws m c x ws (m .«refill_in»)
+    inserting-unfit {c} {x} = record { refused = λ _. (refl, refl); put = λ e g. absurd (true≢false (sym (free-place ws m (x .key) e .fits) ∙ f)); kept = kept-same (m .capacity) ws }
 
-    pub inserting-unfit : {c : ℕ} {x : Record} → InsertingAt ws m c x ws m
-    inserting-unfit {c} {x} = record { refused = λ _. (refl, refl); put = λ e g. absurd (true≢false (sym (free-place ws m (x .key) e .fits) ∙ f)); capacity = refl; kept = kept-same (m .capacity) ws }
+-- ---- the same of any map with a capacity
+module _ (ws : List ℕ) (n : ℕ) where
+  pub taking-at : (c s : ℕ) → fit n (length ws) ≡ true → c < cellCount n → TakingAt ws n c s (takenOut ws n c s) (recordAt ws s .first)
+  taking-at c s f b = record {
+    gone = recordAt ws s;
+    first = refl;
+    refused = λ q. absurd (true≢false (sym f ∙ q));
+    remove = λ m k q e. let o = at-place ws m k e in rw (sym q) (removing-at k c s (o .fits) (o .at));
+    kept = kept-taken n ws c s b;
+  }
+
+  -- where there is no key
+  taking-none : {c s : ℕ} → ((m : LinkedHashMap) (k : ℕ) → m .capacity ≡ n → placeOf ws m k ≡ place.At c s → ⊥) → TakingAt ws n c s ws 0
+  taking-none h = record { gone = zeros; first = refl; refused = λ _. (refl, refl); remove = λ m k q e. absurd (h m k q e); kept = kept-same n ws }
+
+  pub taking-unfit : {c s : ℕ} → fit n (length ws) ≡ false → TakingAt ws n c s ws 0
+  taking-unfit f = taking-none (λ m k q e. true≢false (sym (at-place ws m k e .fits) ∙ rw q f))
+
+  pub taking-past : {c s : ℕ} → n ≤ s → TakingAt ws n c s ws 0
+  taking-past h = taking-none (λ m k q e. omega (arith, at-found _ _ _ _ _ (at-place ws m k e .at) .small))
+
+  pub taking-beyond : {c s : ℕ} → cellCount n ≤ c → TakingAt ws n c s ws 0
+  taking-beyond h = taking-none (λ m k q e. omega (arith, rw q at (at-found _ _ _ _ _ (at-place ws m k e .at) .cell)))

@@ -23,7 +23,7 @@ use Rattle.linked_hash_map.specs.declared.map.Record.{Record}
 use Rattle.linked_hash_map.specs.declared.map.Placed.the-variants as placed
 use Rattle.linked_hash_map.specs.declared.map.Taken.the-variants as taken
 use Rattle.linked_hash_map.specs.Words.{fit, Kept, recordAt, written, replaced, takenOut, putIn, refilled}
-use Rattle.linked_hash_map.specs.Numbers.{shrunkMap, lenAfter, Grown, Inserting}
+use Rattle.linked_hash_map.specs.Numbers.{longerMap, shrunkMap, lenAfter, Grown, Inserting}
 use Rattle.linked_hash_map.specs.Model.{Model, has, lookup, without, placing, put}
 use Rattle.linked_hash_map.specs.Map.{IsMap, liveOf, freeOf, modelOf}
 use Rattle.linked_hash_map.specs.Calls.{Putting, Removing}
@@ -232,12 +232,12 @@ module _ (ws : List ℕ) (m : LinkedHashMap) (x : Record) (c : ℕ) (f : fit (m 
   }
 
   -- fewer, and no record free: no map
-  putting-nowhere : m .len < m .capacity → m .capacity ≤ ring.next ws (m .capacity + 1) → Putting ws m x ws (record { map = m; answer = placed.Inserted })
-  putting-nowhere b h = record {
+  putting-nowhere : {r : LinkedHashMap} → r .capacity ≡ m .capacity → m .len < m .capacity → m .capacity ≤ ring.next ws (m .capacity + 1) → Putting ws m x ws (record { map = r; answer = placed.Inserted })
+  putting-nowhere {r} q b h = record {
     refused = λ q. absurd (true≢false (sym f ∙ q));
     answer = λ is. absurd (omega (arith, none-free is h));
-    capacity = refl;
-    map = λ is. is;
+    capacity = q;
+    map = λ is. absurd (omega (arith, none-free is h));
     model = λ is. absurd (omega (arith, none-free is h));
     full = λ q. absurd (let z : _≡_ {A = ℕ} 0 1 = cc in omega arith);
     kept = kept-same (m .capacity) ws;
@@ -303,8 +303,12 @@ module _ (ws : List ℕ) (m : LinkedHashMap) (x : Record) (c : ℕ) (f : fit (m 
     }
 
   -- the insertion of a key whose probe offers cell c
-  pub putting-free : (ws′ : List ℕ) (r : LinkedHashMap) → m .len < m .capacity → Inserting ws m x c ws′ r → Putting ws m x ws′ (record { map = r; answer = placed.Inserted })
+  pub putting-free : (ws′ : List ℕ) (r : LinkedHashMap) → m .len < m .capacity → Inserting ws m x c ws′ r → Putting ws m x ws′ (record { map = longerMap m (r .«refill_in»); answer = placed.Inserted })
+  unfolding longerMap
   putting-free ws′ r b ins =
       by-lt (ring.next ws (m .capacity + 1)) (m .capacity)
-      (putting-inserted ws′ r ins)
-      (λ h. let q = ins .none h in rw (q .0, q .1) (putting-nowhere b h))
+      (λ h.
+          let g = ins .grown h in
+          let e : _≡_ {A = LinkedHashMap} (record { capacity = m .capacity; len = lenAfter m; «refill_in» = r .«refill_in» }) r = λ i. record { capacity = sym (g .capacity) i; len = sym (g .count) i; «refill_in» = r .«refill_in» } in
+          rw e (putting-inserted ws′ r ins h))
+      (λ h. rw (ins .none h .1) (putting-nowhere refl b h))

@@ -19,7 +19,7 @@ use Rattle.linked_hash_map.specs.declared.map.Opened.{Opened}
 use Rattle.linked_hash_map.specs.declared.map.Put.{Put}
 use Rattle.linked_hash_map.specs.declared.map.Removed.{Removed}
 use Rattle.linked_hash_map.specs.Words.{fit, Kept}
-use Rattle.linked_hash_map.specs.Numbers.{shrunkMap}
+use Rattle.linked_hash_map.specs.Numbers.{shrunkMap, longerMap}
 use Rattle.linked_hash_map.specs.Model.{has, lookup, nth, without, toFront, withPayload, placing, put, recycled}
 use Rattle.linked_hash_map.specs.Map.{IsMap, modelOf, slotOf, slotAt}
 
@@ -120,17 +120,18 @@ pub record ReplacingAt (ws : List ℕ) (m : LinkedHashMap) (s : ℕ) (x : Record
   pub kept : Kept (m .capacity) ws ws′
 
 -- `insert_at`: where its key is new, and there are fewer records than the capacity
-pub record InsertingAt (ws : List ℕ) (m : LinkedHashMap) (c : ℕ) (x : Record) (ws′ : List ℕ) (r : LinkedHashMap) : Type 0 where
-  pub refused : fit (m .capacity) (length ws) ≡ false → (r ≡ m) × (ws′ ≡ ws)
-  pub put : placeOf ws m (x .key) ≡ place.Free c → m .len < m .capacity → Putting ws m x ws′ (record { map = r; answer = placed.Inserted })
-  pub capacity : r .capacity ≡ m .capacity
+pub record InsertingAt (ws : List ℕ) (m : LinkedHashMap) (c : ℕ) (x : Record) (ws′ : List ℕ) (r : ℕ) : Type 0 where
+  pub refused : fit (m .capacity) (length ws) ≡ false → (r ≡ m .refill_in) × (ws′ ≡ ws)
+  pub put : placeOf ws m (x .key) ≡ place.Free c → m .len < m .capacity → Putting ws m x ws′ (record { map = longerMap m r; answer = placed.Inserted })
   pub kept : Kept (m .capacity) ws ws′
 
--- `take_at`: what `remove` does where its key is at a cell and a slot
-pub record TakingAt (ws : List ℕ) (m : LinkedHashMap) (c s : ℕ) (ws′ : List ℕ) (r : Record) : Type 0 where
-  pub refused : fit (m .capacity) (length ws) ≡ false → (r ≡ zeros) × (ws′ ≡ ws)
-  pub remove : (k : ℕ) → placeOf ws m k ≡ place.At c s → Removing ws m k ws′ (record { map = shrunkMap m; answer = taken.Record r })
-  pub kept : Kept (m .capacity) ws ws′
+-- `take_at`: what `remove` does where its key is at a cell and a slot, told by the first word of the record that is gone
+pub record TakingAt (ws : List ℕ) (n c s : ℕ) (ws′ : List ℕ) (r : ℕ) : Type 0 where
+  pub gone : Record
+  pub first : r ≡ gone .first
+  pub refused : fit n (length ws) ≡ false → (r ≡ 0) × (ws′ ≡ ws)
+  pub remove : (m : LinkedHashMap) (k : ℕ) → m .capacity ≡ n → placeOf ws m k ≡ place.At c s → Removing ws m k ws′ (record { map = shrunkMap m; answer = taken.Record gone })
+  pub kept : Kept n ws ws′
 
 -- `recycle`: a record at the front, in the place of another key's
 pub record Recycling (ws : List ℕ) (m : LinkedHashMap) (k : ℕ) (x : Record) (ws′ : List ℕ) (r : LinkedHashMap) : Type 0 where

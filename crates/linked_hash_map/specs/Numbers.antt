@@ -29,6 +29,10 @@ slotFrom n x = cond (ltb x n) (At x) Nothing
 unfoldable pub lenAfter : LinkedHashMap → ℕ
 lenAfter m = cond (ltb (m .len) (m .capacity)) (m .len + 1) (m .capacity)
 
+-- the numbers after an insertion, with refill_in in hand
+unfoldable pub longerMap : LinkedHashMap → ℕ → LinkedHashMap
+longerMap m r = record { capacity = m .capacity; len = lenAfter m; refill_in = r }
+
 -- the numbers and the words after an insertion that leaves k records: most often the words stay
 pub record Grown (ws : List ℕ) (m : LinkedHashMap) (k : ℕ) (ws′ : List ℕ) (r : LinkedHashMap) : Type 0 where
   pub capacity : r .capacity ≡ m .capacity

@@ -4,7 +4,7 @@ ghost use Prim.Native.Nat.{_+_, _-_, _<_, _≤_};
 ghost use lib.ListN.{length};
 ghost use Rattle.cells.specs.Cells.{cellCount};
 ghost use Rattle.linked_hash_map.specs.Words.{fit, Room, Nodes, recordAt, written, emptied, refilled, replaced, takenOut};
-ghost use Rattle.linked_hash_map.specs.Numbers.{emptyMap, shrunkMap, slotFrom, lenAfter, Grown, Inserting, Renewing};
+ghost use Rattle.linked_hash_map.specs.Numbers.{emptyMap, shrunkMap, longerMap, slotFrom, lenAfter, Grown, Inserting, Renewing};
 ghost use Rattle.linked_hash_map.specs.Calls.{Opening, Clearing, Draining, Finding, Touching, Reading, Writing, placeOf, ReplacingAt, InsertingAt, TakingAt, Putting, Removing, Recycling, Ending, Next, Previous, Checking};
 use crate::check;
 use crate::index;
@@ -244,8 +244,15 @@ impl LinkedHashMap {
         match self.first(words) {
             Slot::At(s) => {
                 let front = self.record(words, s);
-                let removed = self.remove(words, front.key);
-                removed.map
+                match self.seek(words, front.key) {
+                    Place::At(c, s) => {
+                        LinkedHashMap::take_at(words, self.capacity, c, s);
+                        self.shrunk()
+                    }
+                    Place::Free(_) => self,
+                    Place::Full => self,
+                    Place::Refused => self,
+                }
             }
             Slot::Nothing => self,
             Slot::Refused => self,
@@ -348,40 +355,51 @@ impl LinkedHashMap {
         replace(words, n, slot, item)
     }
 
-    // Puts the record of a new key at the front, and its cell at c, where there are fewer records than the capacity.
-    pub fn insert_at(self, words: &mut [u64], c: usize, item: Record) -> LinkedHashMap
-        ensures { λ r. ⌜ InsertingAt (now (words .entry)) self c item (now (words .exit)) r ⌝ }
+    // Puts the record of a new key at the front, and its cell at c, where there are fewer records than the capacity. Answers the
+    // new `refill_in`; the numbers are then those of `lengthened`. The two calls that change a ring at a place take and answer
+    // single numbers: a struct goes through memory, and its reader waits for it.
+    pub fn insert_at(
+        words: &mut [u64],
+        capacity: usize,
+        len: usize,
+        refill_in: usize,
+        c: usize,
+        key: u64,
+        first: u64,
+        second: u64,
+    ) -> usize
+        ensures { λ r. ⌜ InsertingAt (now (words .entry)) (record { capacity = capacity; len = len; refill_in = «refill_in» }) c (record { key = key; first = first; second = second }) (now (words .exit)) r ⌝ }
     {
-        let n = self.capacity;
-        if !has_room(n, words.len()) {
-            return self;
+        if !has_room(capacity, words.len()) {
+            return refill_in;
         }
-        if 12 * n + 192 <= c {
-            return self;
+        if 12 * capacity + 192 <= c {
+            return refill_in;
         }
-        self.insert(words, item, c)
+        let map = LinkedHashMap {
+            capacity,
+            len,
+            refill_in,
+        };
+        let grown = map.insert(words, Record { key, first, second }, c);
+        grown.refill_in
     }
 
-    // Takes the record at this cell and slot out, and hands it back. The numbers are then those of `shrunk`.
-    pub fn take_at(self, words: &mut [u64], c: usize, slot: usize) -> Record
-        ensures { λ r. ⌜ TakingAt (now (words .entry)) self c slot (now (words .exit)) r ⌝ }
+    // Takes the record at this cell and slot out, and answers its first word. The numbers are then those of `shrunk`.
+    pub fn take_at(words: &mut [u64], capacity: usize, c: usize, slot: usize) -> u64
+        ensures { λ r. ⌜ TakingAt (now (words .entry)) capacity c slot (now (words .exit)) r ⌝ }
     {
-        let n = self.capacity;
-        let none = Record {
-            key: 0,
-            first: 0,
-            second: 0,
-        };
-        if !has_room(n, words.len()) {
-            return none;
+        if !has_room(capacity, words.len()) {
+            return 0;
         }
-        if n <= slot {
-            return none;
+        if capacity <= slot {
+            return 0;
         }
-        if 12 * n + 192 <= c {
-            return none;
+        if 12 * capacity + 192 <= c {
+            return 0;
         }
-        take(words, n, c, slot)
+        let gone = take(words, capacity, c, slot);
+        gone.first
     }
 
     // Puts the record at the front, in the place of its key's old one where there is one.
@@ -395,8 +413,18 @@ impl LinkedHashMap {
             },
             Place::Free(c) => {
                 if self.len < self.capacity {
+                    let refill_in = LinkedHashMap::insert_at(
+                        words,
+                        self.capacity,
+                        self.len,
+                        self.refill_in,
+                        c,
+                        item.key,
+                        item.first,
+                        item.second,
+                    );
                     return Put {
-                        map: self.insert_at(words, c, item),
+                        map: self.lengthened(refill_in),
                         answer: Placed::Inserted,
                     };
                 }
@@ -462,7 +490,7 @@ impl LinkedHashMap {
         match self.seek(words, key) {
             Place::At(c, s) => Removed {
                 map: self.shrunk(),
-                answer: Taken::Record(self.take_at(words, c, s)),
+                answer: Taken::Record(take(words, self.capacity, c, s)),
             },
             Place::Free(_) => Removed {
                 map: self,
@@ -542,6 +570,19 @@ impl LinkedHashMap {
             capacity: n,
             len,
             refill_in: 6 * n + 96,
+        }
+    }
+
+    // The numbers with one record more.
+    pub fn lengthened(self, refill_in: usize) -> LinkedHashMap
+        ensures { λ r. ⌜ r ≡ longerMap self «refill_in» ⌝ }
+    {
+        let n = self.capacity;
+        let len = if self.len < n { self.len + 1 } else { n };
+        LinkedHashMap {
+            capacity: n,
+            len,
+            refill_in,
         }
     }
 
