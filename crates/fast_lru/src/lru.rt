@@ -240,9 +240,19 @@ impl FastLru {
             }
             Place::Free(c) => {
                 if map.len < map.capacity {
+                    let refill_in = LinkedHashMap::insert_at(
+                        words,
+                        map.capacity,
+                        map.len,
+                        map.refill_in,
+                        c,
+                        item.key,
+                        item.first,
+                        item.second,
+                    );
                     return Got {
                         lru: FastLru {
-                            map: map.insert_at(words, c, item),
+                            map: map.lengthened(refill_in),
                         },
                         answer: Found::Nothing,
                     };
@@ -322,10 +332,10 @@ impl FastLru {
                 let map = self.map;
                 match map.seek(words, key) {
                     Place::At(c, s) => {
-                        let gone = map.take_at(words, c, s);
+                        let value = LinkedHashMap::take_at(words, map.capacity, c, s);
                         Got {
                             lru: FastLru { map: map.shrunk() },
-                            answer: Found::Value(gone.first),
+                            answer: Found::Value(value),
                         }
                     }
                     Place::Free(_) => Got {

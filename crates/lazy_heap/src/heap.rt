@@ -69,9 +69,10 @@ struct Step {
     discarded: usize,
 }
 
-// The scores after one was stored, and the key's old one.
+// The numbers of the scores after one was stored, and the key's old one.
 struct Stored {
-    scores: LinkedHashMap,
+    len: usize,
+    refill_in: usize,
     answer: Score,
 }
 
@@ -138,6 +139,18 @@ fn too_many(factor: usize, entries: usize, held: usize) -> bool
     at_least_one(factor) * held < entries
 }
 
+// The numbers of the scores that may change, and a score. As numbers and not as a struct: that would be copied in memory right
+// after its numbers were stored there one by one, and the copy waits for them.
+fn stored(map: LinkedHashMap, answer: Score) -> Stored
+    ensures { λ r. ⌜ r ≡ record { len = map .len; refill_in = map .«refill_in»; answer = answer } ⌝ }
+{
+    Stored {
+        len: map.len,
+        refill_in: map.refill_in,
+        answer,
+    }
+}
+
 // What `put` does, told by the score that it replaces.
 fn store(map: LinkedHashMap, words: &mut [u64], item: Record) -> Stored
     ensures { λ r. ⌜ Storing (now (words .entry)) map item (now (words .exit)) r ⌝ }
@@ -145,31 +158,26 @@ fn store(map: LinkedHashMap, words: &mut [u64], item: Record) -> Stored
     match map.seek(words, item.key) {
         Place::At(_, s) => {
             let old = map.replace_at(words, s, item);
-            Stored {
-                scores: map,
-                answer: Score::Value(old.first),
-            }
+            stored(map, Score::Value(old.first))
         }
         Place::Free(c) => {
             if map.len < map.capacity {
-                return Stored {
-                    scores: map.insert_at(words, c, item),
-                    answer: Score::Nothing,
-                };
+                let refill_in = LinkedHashMap::insert_at(
+                    words,
+                    map.capacity,
+                    map.len,
+                    map.refill_in,
+                    c,
+                    item.key,
+                    item.first,
+                    item.second,
+                );
+                return stored(map.lengthened(refill_in), Score::Nothing);
             }
-            Stored {
-                scores: map,
-                answer: Score::Nothing,
-            }
+            stored(map, Score::Nothing)
         }
-        Place::Full => Stored {
-            scores: map,
-            answer: Score::Nothing,
-        },
-        Place::Refused => Stored {
-            scores: map,
-            answer: Score::Nothing,
-        },
+        Place::Full => stored(map, Score::Nothing),
+        Place::Refused => stored(map, Score::Nothing),
     }
 }
 
@@ -796,12 +804,11 @@ impl LazyMinHeap {
             },
         );
         let answer = stored.answer;
-        // Number by number, which is quicker than to copy the three at once right after they were stored.
         let heap = LazyMinHeap {
             scores: LinkedHashMap {
                 capacity: self.scores.capacity,
-                len: stored.scores.len,
-                refill_in: stored.scores.refill_in,
+                len: stored.len,
+                refill_in: stored.refill_in,
             },
             entries: self.entries,
             seq: number_after(seq),
@@ -875,7 +882,7 @@ impl LazyMinHeap {
         let scores = self.scores;
         match scores.seek(words, key) {
             Place::At(c, s) => {
-                let old = scores.take_at(words, c, s);
+                let old = LinkedHashMap::take_at(words, scores.capacity, c, s);
                 Updated {
                     heap: LazyMinHeap {
                         scores: scores.shrunk(),
@@ -883,7 +890,7 @@ impl LazyMinHeap {
                         seq: self.seq,
                         factor: self.factor,
                     },
-                    answer: Score::Value(old.first),
+                    answer: Score::Value(old),
                     discarded: 0,
                 }
             }
@@ -977,7 +984,7 @@ impl LazyMinHeap {
         let map = heap.scores;
         match map.seek(words, key) {
             Place::At(c, s) => {
-                map.take_at(words, c, s);
+                LinkedHashMap::take_at(words, map.capacity, c, s);
                 LazyMinHeap {
                     scores: map.shrunk(),
                     entries: heap.entries,

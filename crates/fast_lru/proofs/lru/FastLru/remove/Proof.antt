@@ -21,7 +21,7 @@ remove-spec =
     (λ c. search needs)
     (λ c. removing-refused (sym (c .before .before .before .admitted .ensures) ∙ c .before .why .given .1) _)
     (λ c. search needs)
-    (λ c. rw (c .shrunk .ensures) (removing (sym (c .before .before .before .before .before .before .before .before .before .before .before .before .before .admitted .ensures) ∙ c .before .before .before .before .before .before .before .before .before .before .before .enum-told .given .1) _ _ _ _ (c .before .before .before .take-at .ensures .remove _ (sym (c .before .before .before .before .before .before .before .before .seek .ensures) ∙ c .before .before .before .before .before .before .c .given .1)) refl))
+    (λ c. let o = c .before .before .before .take-at .ensures in rw (c .shrunk .ensures) (removing (sym (c .before .before .before .before .before .before .before .before .before .before .before .before .before .admitted .ensures) ∙ c .before .before .before .before .before .before .before .before .before .before .before .enum-told .given .1) _ _ _ _ (o .remove _ _ refl (sym (c .before .before .before .before .before .before .before .before .seek .ensures) ∙ c .before .before .before .before .before .before .c .given .1)) (rw (o .first) refl)))
     (λ c. search needs)
     (λ c. removing (sym (c .before .before .before .before .before .before .before .admitted .ensures) ∙ c .before .before .before .before .before .enum-told .given .1) _ _ _ _ (remove-free _ (sym (c .before .before .seek .ensures) ∙ c .enum-told2 .given .1)) refl)
     (λ c. search needs)
