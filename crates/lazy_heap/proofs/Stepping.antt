@@ -224,8 +224,8 @@ module _ (k : ℕ) (l : List Record) (n : ℕ) where
       go false (inr h) q = absurd (true≢false (sym (le-leb n (length l) h) ∙ q))
 
 -- the numbers of the scores, one by one
-pub stored-scores : {ws ws′ : List ℕ} {m : LinkedHashMap} {x : Record} {r : Stored} (o : Storing ws m x ws′ r) → _≡_ {A = LinkedHashMap} (record { capacity = m .capacity; len = r .scores .len; «refill_in» = r .scores .«refill_in» }) (o .put .map)
-stored-scores o = λ i. record { capacity = sym (o .putting .capacity) i; len = o .scores i .len; «refill_in» = o .scores i .«refill_in» }
+pub stored-scores : {ws ws′ : List ℕ} {m : LinkedHashMap} {x : Record} {r : Stored} (o : Storing ws m x ws′ r) → _≡_ {A = LinkedHashMap} (record { capacity = m .capacity; len = r .len; «refill_in» = r .«refill_in» }) (o .put .map)
+stored-scores o = λ i. record { capacity = sym (o .putting .capacity) i; len = o .len i; «refill_in» = o .refill i }
 
 module _ {ws ws₁ ws′ : List ℕ} {h r : LazyMinHeap} {k s : ℕ} (p : Put) (put : Putting ws (h .scores) (record { key = k; first = s; second = h .seq }) ws₁ p) (push : Pushing ws₁ (record { scores = p .map; entries = h .entries; seq = after (h .seq); factor = h .factor }) (record { score = s; seq = h .seq; key = k }) ws′ r) where
   abbrev x : Record

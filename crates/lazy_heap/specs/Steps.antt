@@ -120,7 +120,8 @@ replacedScore placed.Refused = score.Nothing
 pub record Storing (ws : List ℕ) (m : LinkedHashMap) (x : Record) (ws′ : List ℕ) (r : Stored) : Type 0 where
   pub put : Put
   pub putting : Putting ws m x ws′ put
-  pub scores : r .scores ≡ put .map
+  pub len : r .len ≡ put .map .len
+  pub refill : r .refill_in ≡ put .map .refill_in
   pub answer : r .answer ≡ replacedScore (put .answer)
 
 -- `too_many`

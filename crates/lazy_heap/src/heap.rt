@@ -141,7 +141,7 @@ fn too_many(factor: usize, entries: usize, held: usize) -> bool
 
 // The numbers of the scores that may change, and a score. As numbers and not as a struct: that would be copied in memory right
 // after its numbers were stored there one by one, and the copy waits for them.
-fn stored(map: LinkedHashMap, answer: Score) -> Stored
+fn numbers_of(map: LinkedHashMap, answer: Score) -> Stored
     ensures { λ r. ⌜ r ≡ record { len = map .len; refill_in = map .«refill_in»; answer = answer } ⌝ }
 {
     Stored {
@@ -158,7 +158,7 @@ fn store(map: LinkedHashMap, words: &mut [u64], item: Record) -> Stored
     match map.seek(words, item.key) {
         Place::At(_, s) => {
             let old = map.replace_at(words, s, item);
-            stored(map, Score::Value(old.first))
+            numbers_of(map, Score::Value(old.first))
         }
         Place::Free(c) => {
             if map.len < map.capacity {
@@ -172,12 +172,12 @@ fn store(map: LinkedHashMap, words: &mut [u64], item: Record) -> Stored
                     item.first,
                     item.second,
                 );
-                return stored(map.lengthened(refill_in), Score::Nothing);
+                return numbers_of(map.lengthened(refill_in), Score::Nothing);
             }
-            stored(map, Score::Nothing)
+            numbers_of(map, Score::Nothing)
         }
-        Place::Full => stored(map, Score::Nothing),
-        Place::Refused => stored(map, Score::Nothing),
+        Place::Full => numbers_of(map, Score::Nothing),
+        Place::Refused => numbers_of(map, Score::Nothing),
     }
 }
 

@@ -308,7 +308,7 @@ module _ (ws : List ℕ) (m : LinkedHashMap) (x : Record) (c : ℕ) (f : fit (m 
   putting-free ws′ r b ins =
       by-lt (ring.next ws (m .capacity + 1)) (m .capacity)
       (λ h.
-          let g = ins .grown h in
-          let e : _≡_ {A = LinkedHashMap} (record { capacity = m .capacity; len = lenAfter m; «refill_in» = r .«refill_in» }) r = λ i. record { capacity = sym (g .capacity) i; len = sym (g .count) i; «refill_in» = r .«refill_in» } in
-          rw e (putting-inserted ws′ r ins h))
+      let g = ins .grown h in
+      let e : _≡_ {A = LinkedHashMap} (record { capacity = m .capacity; len = lenAfter m; «refill_in» = r .«refill_in» }) r = λ i. record { capacity = sym (g .capacity) i; len = sym (g .count) i; «refill_in» = r .«refill_in» } in
+      rw e (putting-inserted ws′ r ins h))
       (λ h. rw (ins .none h .1) (putting-nowhere refl b h))

@@ -17,7 +17,7 @@ remove-within-spec =
     (λ c. search needs)
     (λ c. search needs)
     (λ c. search needs)
-    (λ c. rw (c .shrunk .ensures) (removing _ _ (c .before .before .before .take-at .ensures .remove _ (sym (c .before .before .before .before .before .before .before .before .seek .ensures) ∙ c .before .before .before .before .before .before .c .given .1)) refl (c .before .before .before .before .before .before .before .before .before .before .before .before .pre)))
+    (λ c. let o = c .before .before .before .take-at .ensures in rw (c .shrunk .ensures) (removing _ _ (o .remove _ _ refl (sym (c .before .before .before .before .before .before .before .before .seek .ensures) ∙ c .before .before .before .before .before .before .c .given .1)) (rw (o .first) refl) (c .before .before .before .before .before .before .before .before .before .before .before .before .pre)))
     (λ c. search needs)
     (λ c. removing _ _ (remove-free _ (sym (c .before .before .seek .ensures) ∙ c .enum-told .given .1)) refl (c .before .before .before .before .before .before .pre))
     (λ c. search needs)

@@ -1,4 +1,4 @@
-use mathlib.Core.Path.{sym, _∙_}
+use mathlib.Core.Path.{refl, sym, _∙_}
 use borrow.Author.Needs.{needs}
 use Rattle.linked_hash_map.proofs.Places.{remove-free, remove-full, remove-refused}
 use Rattle.lazy_heap.proofs.Best.{taking}
@@ -18,7 +18,7 @@ take-top-spec =
     (λ c. search needs)
     (λ c. search needs)
     (λ c. search needs)
-    (λ c. rw (c .shrunk .ensures) (taking (c .before .before .before .before .before .before .before .before .before .before .before .before .before .pop .ensures) (c .before .before .before .take-at .ensures .remove _ (sym (c .before .before .before .before .before .before .before .before .seek .ensures) ∙ c .before .before .before .before .before .before .c .given .1))))
+    (λ c. rw (c .shrunk .ensures) (taking (c .before .before .before .before .before .before .before .before .before .before .before .before .before .pop .ensures) (c .before .before .before .take-at .ensures .remove _ _ refl (sym (c .before .before .before .before .before .before .before .before .seek .ensures) ∙ c .before .before .before .before .before .before .c .given .1))))
     (λ c. search needs)
     (λ c. taking (c .before .before .before .before .before .before .before .pop .ensures) (remove-free _ (sym (c .before .before .seek .ensures) ∙ c .enum-told .given .1)))
     (λ c. search needs)
