@@ -16,10 +16,10 @@ use Rattle.expiring.specs.declared.expiring.Expiring.{Expiring}
 use Rattle.expiring.specs.declared.expiring.Dated.{Dated}
 use Rattle.expiring_model.specs.Model.{Change, keep, set, valueIn}
 use Rattle.expiring.specs.Book.{IsBook}
-use Rattle.expiring.specs.Steps.{ofFound, comeBy, withList, withIndex, storedOf, DeadlineOf, Moved, same, Dating, Valuing, beyond, expiredIn, valueOf, unless, Acting, concluding, Inserting}
+use Rattle.expiring.specs.Steps.{ofFound, comeBy, withList, withIndex, storedOf, DeadlineOf, Moved, same, Dating, beyond, expiredIn, valueOf, unless, Acting, concluding, Inserting}
 use Rattle.expiring.proofs.Asking.{expired-by}
 use Rattle.expiring.proofs.Moving.{moved-later}
-use Rattle.expiring.proofs.Valuing.{not-true, found-accepted, dropping, putting-in}
+use Rattle.expiring.proofs.Valuing.{not-true, found-accepted, value-of, dropping, putting-in}
 use Rattle.expiring.proofs.Acting.{Accepted, no-refusal, acting-expired, acting}
 
 pub nothing-accepted : Accepted answers.Nothing
@@ -36,14 +36,14 @@ module _ {ws ws′ : List ℕ} {b b′ : Expiring} {ch : Change} {f : Items → 
 
 -- ---- first the deadline, then the value
 module _ {ws ws₁ ws₂ : List ℕ} {b : Expiring} {x : ExpirationIndex} {ch : Change} {d : ℕ} (t : Tick) {k : ℕ} {old : Deadline} (g : Got) (move : Moved ws b ch same ws₁ (withIndex b x) d) (free : IsBook ws b → beyond ch ws b ≡ false) (dated : DeadlineOf ws b k old) (word : b .expirations < 2 ^ 64) where
-  changing : {f : Items → Items} → Valuing ws₁ (withIndex b x) keep k f ws₂ (record { book = withList (withIndex b x) (g .lru); answer = ofFound (g .answer) }) → Acting ws b ch (f (storedOf ws b)) (cond (expiredIn ws b t k) 1 0) (unless (expiredIn ws b t k) (valueOf ws b k)) ws₂ (concluding (withList (withIndex b x) (g .lru)) (g .answer) old t d)
-  changing p = conclude t (g .answer) (moved-later move (p .moved)) free dated (λ o. p .answer (move .book o) ∙ ap (λ (s : Items). valueIn (list.lookup k s)) (move .stored o)) word
+  changing : {f : Items → Items} → Moved ws₁ (withIndex b x) keep f ws₂ (withList (withIndex b x) (g .lru)) 0 → (IsBook ws₁ (withIndex b x) → g .answer ≡ list.valueOf k (storedOf ws₁ (withIndex b x))) → Acting ws b ch (f (storedOf ws b)) (cond (expiredIn ws b t k) 1 0) (unless (expiredIn ws b t k) (valueOf ws b k)) ws₂ (concluding (withList (withIndex b x) (g .lru)) (g .answer) old t d)
+  changing p told = conclude t (g .answer) (moved-later move p) free dated (λ o. ap ofFound (told (move .book o)) ∙ value-of k _ ∙ ap (λ (s : Items). valueIn (list.lookup k s)) (move .stored o)) word
 
   pub inserting : (v : ℕ) → lru.Inserting ws₁ (b .inner) (record { key = k; value = v }) ws₂ g → Inserting ws b t k v ch ws₂ (concluding (withList (withIndex b x) (g .lru)) (g .answer) old t d)
-  inserting v o = changing (putting-in (withIndex b x) k v o refl)
+  inserting v o = changing (putting-in (withIndex b x) k v o) (λ is. o .answer (is .list))
 
   pub removing : lru.Removing ws₁ (b .inner) k ws₂ g → Acting ws b ch (list.without k (storedOf ws b)) (cond (expiredIn ws b t k) 1 0) (unless (expiredIn ws b t k) (valueOf ws b k)) ws₂ (concluding (withList (withIndex b x) (g .lru)) (g .answer) old t d)
-  removing o = changing (dropping (withIndex b x) k o refl)
+  removing o = changing (dropping (withIndex b x) k o) (λ is. o .answer (is .list))
 
 -- ---- whether a deadline was set
 not-false : (x : Bool) → not x ≡ false → x ≡ true

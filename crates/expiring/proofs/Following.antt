@@ -44,12 +44,11 @@ use Rattle.expiring_model.specs.declared.answers.Answer.the-variants as answers
 use Rattle.expiring.specs.declared.answers.Reply.{Reply}
 use Rattle.expiring.specs.declared.expiring.Expiring.{Expiring}
 use Rattle.expiring_model.specs.declared.lifetimes.DefaultTtl.the-variants as default
-use Rattle.expiring.specs.declared.expiring.Valued.{Valued}
 use Rattle.expiring.specs.declared.expiring.Dated.{Dated}
 use Rattle.expiring_model.specs.Model.{Call, contains, peek, get, insert, remove, clear, insertWithTtl, ttlStatus, setTtl, liveLen, expirations, nextDeadline, touch, recencyRank, popLru, peekLru, keep, set, drop, dropAll, isExpired, changeOf, storedAfter, expiredBy, answered, badNanos, valueUnlessExpired, itemIn, dueIn, rankIn, tell, statusIn, livesAt}
 use Rattle.expiring.specs.Book.{limitsOf, Room, capacityOf, limitOf, IsBook, modelOf}
 use Rattle.expiring.specs.Calls.{Following}
-use Rattle.expiring.specs.Steps.{ofFound, ofTold, ofOldest, ofDue, statusOf, withList, withIndex, withExpired, replying, storedOf, deadlinesOf, DeadlineOf, Expired, Stored, StoredCount, ExpiredCount, Moved, same, Dating, Valuing, Inserting, Removing}
+use Rattle.expiring.specs.Steps.{ofFound, ofTold, ofOldest, ofDue, statusOf, withList, withIndex, withExpired, replying, storedOf, deadlinesOf, DeadlineOf, Expired, Stored, StoredCount, ExpiredCount, Moved, same, Dating, Inserting, Removing}
 use Rattle.expiring.proofs.Moving.{moved-list, moved-then, moved-same, moved-look, lent, back, lent-is, lent-index}
 use Rattle.expiring.proofs.Acting.{Accepted, no-refusal, follow, acting, acting-expired, acting-full}
 use Rattle.expiring.proofs.Valuing.{found-accepted, value-of}
@@ -149,10 +148,10 @@ module _ (ws : List ℕ) (b : Expiring) (t : Tick) (limits : limitsOf (capacityO
       rw u (follow-same (peek k) refl (λ m n. refl) (λ m n. refl) (λ m n. refl) (found-accepted r) (λ o m n. rw (sym (x .answer o), y) (sym (ap ofFound (a .answer (o .list)) ∙ value-of k (storedOf ws b)))))
 
   -- ---- `get`
-  pub follow-get-expired : {k : ℕ} {e : Bool} {ws′ : List ℕ} {v : Valued} → Expired ws b t k e → e ≡ true → Valuing ws b (drop k) k (list.without k) ws′ v → Following ws b t (get k) ws′ (replying (withExpired (v .book) 1) answers.Nothing)
+  pub follow-get-expired : {k : ℕ} {e : Bool} {ws′ : List ℕ} {b′ : Expiring} → Expired ws b t k e → e ≡ true → Moved ws b (drop k) (list.without k) ws′ b′ 0 → Following ws b t (get k) ws′ (replying (withExpired b′ 1) answers.Nothing)
   unfolding changeOf storedAfter expiredBy answered badNanos modelOf isExpired valueUnlessExpired
   follow-get-expired {k} x y d =
-      follow ws b t (get k) limits refl (acting-expired (d .moved) (λ o. refl) 1 nothing-accepted (λ o. refl) (λ o. refl) (λ o. refl))
+      follow ws b t (get k) limits refl (acting-expired d (λ o. refl) 1 nothing-accepted (λ o. refl) (λ o. refl) (λ o. refl))
       (λ o m n. rw (sym (x .answer o), y)) (λ o m n. rw (sym (x .answer o), y)) (λ o m n. rw (sym (x .answer o), y)) (λ o m n. rw (sym (x .answer o), y))
 
   pub follow-got : {k : ℕ} {e : Bool} {ws′ : List ℕ} {r : Got} {u : Answer} → Expired ws b t k e → e ≡ false → lru.Getting ws (b .inner) k ws′ r → u ≡ ofFound (r .answer) → Following ws b t (get k) ws′ (replying (withList b (r .lru)) u)
@@ -246,17 +245,17 @@ module _ (ws : List ℕ) (b : Expiring) (t : Tick) (limits : limitsOf (capacityO
         (λ o m n. rw (sym (held .answer o), y)) (λ o m n. rw (sym (held .answer o), y)) (λ o m n. rw (sym (held .answer o), y)) (λ o m n. rw (sym (held .answer o), y))
 
     module _ (y : s ≡ true) {e : Bool} (x : Expired ws b t k e) where
-      pub follow-ttl-expired : {ws′ : List ℕ} {v : Valued} → e ≡ true → Valuing ws b (drop k) k (list.without k) ws′ v → Following ws b t (setTtl k d) ws′ (replying (withExpired (v .book) 1) answers.No)
+      pub follow-ttl-expired : {ws′ : List ℕ} {b′ : Expiring} → e ≡ true → Moved ws b (drop k) (list.without k) ws′ b′ 0 → Following ws b t (setTtl k d) ws′ (replying (withExpired b′ 1) answers.No)
       unfolding changeOf storedAfter expiredBy answered badNanos modelOf isExpired
       follow-ttl-expired z v =
-          follow ws b t (setTtl k d) limits (rw i) (acting-expired (v .moved) (λ o. refl) 1 (tell-accepted false) (λ o. refl) (λ o. refl) (λ o. refl))
+          follow ws b t (setTtl k d) limits (rw i) (acting-expired v (λ o. refl) 1 (tell-accepted false) (λ o. refl) (λ o. refl) (λ o. refl))
           (λ o m n. rw (sym (held .answer o), y, sym (x .answer o), z)) (λ o m n. rw (sym (held .answer o), y, sym (x .answer o), z)) (λ o m n. rw (sym (held .answer o), y, sym (x .answer o), z)) (λ o m n. rw (sym (held .answer o), y, sym (x .answer o), z))
 
       module _ (z : e ≡ false) where
-        pub follow-ttl-zero : {ws′ : List ℕ} {v : Valued} → millisOf d ≡ 0 → Valuing ws b (drop k) k (list.without k) ws′ v → Following ws b t (setTtl k d) ws′ (replying (v .book) answers.No)
+        pub follow-ttl-zero : {ws′ : List ℕ} {b′ : Expiring} → millisOf d ≡ 0 → Moved ws b (drop k) (list.without k) ws′ b′ 0 → Following ws b t (setTtl k d) ws′ (replying b′ answers.No)
         unfolding changeOf storedAfter expiredBy answered badNanos modelOf isExpired
         follow-ttl-zero q v =
-            follow ws b t (setTtl k d) limits (rw i) (acting (v .moved) (λ o. refl) word (tell-accepted false) (λ o. refl) (λ o. refl) (λ o. refl))
+            follow ws b t (setTtl k d) limits (rw i) (acting v (λ o. refl) word (tell-accepted false) (λ o. refl) (λ o. refl) (λ o. refl))
             (λ o m n. rw (sym (held .answer o), y, sym (x .answer o), z, eq-eqb (millisOf d) 0 q)) (λ o m n. rw (sym (held .answer o), y, sym (x .answer o), z, eq-eqb (millisOf d) 0 q)) (λ o m n. rw (sym (held .answer o), y, sym (x .answer o), z)) (λ o m n. rw (sym (held .answer o), y, sym (x .answer o), z, eq-eqb (millisOf d) 0 q))
 
         module _ (q : millisOf d ≡ 0 → ⊥) {l : TtlTicks} (f : millisOf d ≡ l .0) {ws′ : List ℕ} {r : Dated} (a : Dating ws b k (deadlineFrom t l) ws′ r) where

@@ -17,10 +17,9 @@ use Rattle.expiration_index.specs.Model as pairs
 use Rattle.expiration_index.specs.Index as index
 use Rattle.expiration_index.specs.Calls as calls
 use Rattle.expiring.specs.declared.expiring.Expiring.{Expiring}
-use Rattle.expiring.specs.declared.expiring.Valued.{Valued}
 use Rattle.expiring_model.specs.Model.{keep}
 use Rattle.expiring.specs.Book.{Room, capacityOf, limitOf, IsBook, heapOf}
-use Rattle.expiring.specs.Steps.{withIndex, storedOf, deadlinesOf, Valuing, PoppingExpired}
+use Rattle.expiring.specs.Steps.{withIndex, storedOf, deadlinesOf, Moved, PoppingExpired}
 use Rattle.expiring.proofs.Frames.{kept-then}
 use Rattle.expiring.proofs.Moving.{pairs-keep, heap-keep, lent, back, lent-is, lent-index, rest-index, list-same, index-kept}
 
@@ -88,19 +87,19 @@ module _ (ws : List ℕ) (b : Expiring) (room : Room (length ws) (capacityOf b) 
   pub popping-refused : {why : Refusal} → r .answer ≡ due.Refused why → PoppingExpired ws b t (back ws b ys) (record { book = b₁; «is_popped» = false; stale = r .discarded })
   popping-refused e = popping-nothing (λ is. absurd (never-told (nextExpired t (deadlinesOf ws b)) (sym (told is) ∙ e)))
 
-  pub popping-some : {k : ℕ} {d : Tick} {ws₂ : List ℕ} {v : Valued} → r .answer ≡ due.Pair k d → Valuing (back ws b ys) b₁ keep k (list.without k) ws₂ v → PoppingExpired ws b t ws₂ (record { book = v .book; «is_popped» = true; stale = r .discarded })
-  popping-some {k} e v = record {
-    capacity = v .moved .capacity;
-    limit = v .moved .limit ∙ o .call .limit;
-    lifetime = v .moved .lifetime;
-    expirations = v .moved .expirations;
-    book = λ is. v .moved .book (is-book is);
+  pub popping-some : {k : ℕ} {d : Tick} {ws₂ : List ℕ} {b₂ : Expiring} → r .answer ≡ due.Pair k d → Moved (back ws b ys) b₁ keep (list.without k) ws₂ b₂ 0 → PoppingExpired ws b t ws₂ (record { book = b₂; «is_popped» = true; stale = r .discarded })
+  popping-some {k} e m = record {
+    capacity = m .capacity;
+    limit = m .limit ∙ o .call .limit;
+    lifetime = m .lifetime;
+    expirations = m .expirations;
+    book = λ is. m .book (is-book is);
     popped = λ is. sym (rw (found is .1));
-    stored = λ is. v .moved .stored (is-book is) ∙ ap (list.without k) (stored-same is) ∙ sym (rw (found is .1, found is .2));
-    deadlines = λ is. v .moved .deadlines (is-book is) ∙ pairs-keep (deadlinesOf (back ws b ys) b₁) ∙ deadlines-then is;
-    heap = λ is. v .moved .heap (is-book is) ∙ heap-keep (heapOf (back ws b ys) b₁) ∙ heap-then is;
+    stored = λ is. m .stored (is-book is) ∙ ap (list.without k) (stored-same is) ∙ sym (rw (found is .1, found is .2));
+    deadlines = λ is. m .deadlines (is-book is) ∙ pairs-keep (deadlinesOf (back ws b ys) b₁) ∙ deadlines-then is;
+    heap = λ is. m .heap (is-book is) ∙ heap-keep (heapOf (back ws b ys) b₁) ∙ heap-then is;
     stale = discarded-then;
-    kept = kept-then refl (o .call .limit) (index-kept ws b room (r .index) (o .call .kept)) (v .moved .kept);
+    kept = kept-then refl (o .call .limit) (index-kept ws b room (r .index) (o .call .kept)) (m .kept);
   }
     where
       found : IsBook ws b → (p : Pair) × (nextExpired t (deadlinesOf ws b) ≡ some p) × (p .key ≡ k)

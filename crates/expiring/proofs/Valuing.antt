@@ -31,7 +31,7 @@ use Rattle.expiring.specs.declared.expiring.Expiring.{Expiring}
 use Rattle.expiring_model.specs.Model.{keep, set, valueIn, pairsAfter}
 use Rattle.expiring_model.specs.Discards.{discards, heapAfter}
 use Rattle.expiring.specs.Book.{start, Room, capacityOf, limitOf, IsBook, heapOf}
-use Rattle.expiring.specs.Steps.{ofFound, isAccepted, withList, withIndex, storedOf, deadlinesOf, DeadlineOf, Dating, Valuing}
+use Rattle.expiring.specs.Steps.{ofFound, isAccepted, withList, withIndex, storedOf, deadlinesOf, DeadlineOf, Moved, Dating}
 use Rattle.expiring.proofs.Moving.{moved-list, lent, back, lent-is, lent-index, moved-index}
 use Rattle.expiring.proofs.Acting.{Accepted, no-refusal}
 
@@ -50,19 +50,11 @@ unfolding list.valueOf
 value-of k s = value-found (list.lookup k s)
 
 module _ {ws ws′ : List ℕ} (b : Expiring) (k : ℕ) where
-  pub dropping : {r : Got} {a : Answer} → lru.Removing ws (b .inner) k ws′ r → a ≡ ofFound (r .answer) → Valuing ws b keep k (list.without k) ws′ (record { book = withList b (r .lru); answer = a })
-  dropping {r} o e = record {
-    moved = moved-list b (r .lru) (o .capacity) (o .kept) (list.without k) (o .list) (o .model);
-    answer = λ is. e ∙ ap ofFound (o .answer (is .list)) ∙ value-of k (storedOf ws b);
-    accepted = λ why q. found-accepted (r .answer) why (sym e ∙ q);
-  }
+  pub dropping : {r : Got} → lru.Removing ws (b .inner) k ws′ r → Moved ws b keep (list.without k) ws′ (withList b (r .lru)) 0
+  dropping {r} o = moved-list b (r .lru) (o .capacity) (o .kept) (list.without k) (o .list) (o .model)
 
-  pub putting-in : (v : ℕ) {r : Got} {a : Answer} → lru.Inserting ws (b .inner) (record { key = k; value = v }) ws′ r → a ≡ ofFound (r .answer) → Valuing ws b keep k (list.inserted (capacityOf b) (record { key = k; value = v })) ws′ (record { book = withList b (r .lru); answer = a })
-  putting-in v {r} o e = record {
-    moved = moved-list b (r .lru) (o .capacity) (o .kept) (list.inserted (capacityOf b) (record { key = k; value = v })) (o .list) (o .model);
-    answer = λ is. e ∙ ap ofFound (o .answer (is .list)) ∙ value-of k (storedOf ws b);
-    accepted = λ why q. found-accepted (r .answer) why (sym e ∙ q);
-  }
+  pub putting-in : (v : ℕ) {r : Got} → lru.Inserting ws (b .inner) (record { key = k; value = v }) ws′ r → Moved ws b keep (list.inserted (capacityOf b) (record { key = k; value = v })) ws′ (withList b (r .lru)) 0
+  putting-in v {r} o = moved-list b (r .lru) (o .capacity) (o .kept) (list.inserted (capacityOf b) (record { key = k; value = v })) (o .list) (o .model)
 
 -- ---- a deadline
 held-accepted : (x : Option Pair) → isAccepted (deadlineIn x) ≡ true

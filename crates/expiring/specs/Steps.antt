@@ -40,7 +40,6 @@ use Rattle.expiring.specs.declared.expiring.Expiring.{Expiring}
 use Rattle.expiring.specs.declared.expiring.Opened as expiring
 use Rattle.expiring.specs.declared.expiring.Dated.{Dated}
 use Rattle.expiring.specs.declared.expiring.Popped.{Popped}
-use Rattle.expiring.specs.declared.expiring.Valued.{Valued}
 use Rattle.expiring.specs.declared.expiring.Defaulted.{Defaulted}
 use Rattle.expiring.specs.declared.expiring.Defaulted.the-variants as defaulted
 use Rattle.expiring_model.specs.declared.lifetimes.DefaultTtl.{DefaultTtl}
@@ -157,12 +156,6 @@ pub record Dating (ws : List ℕ) (b : Expiring) (k : ℕ) (t : Tick) (ws′ : L
   pub answer : IsBook ws b → r .«is_set» ≡ not (isFull (limitOf b) k (deadlinesOf ws b))
   pub refused : r .«is_set» ≡ false → ws′ ≡ ws
   pub moved : r .«is_set» ≡ true → Moved ws b (set k t) same ws′ (r .book) (r .discarded)
-
--- a step on the values, with the value that the key had
-pub record Valuing (ws : List ℕ) (b : Expiring) (ch : Change) (k : ℕ) (f : Items → Items) (ws′ : List ℕ) (r : Valued) : Type 0 where
-  pub moved : Moved ws b ch f ws′ (r .book) 0
-  pub answer : IsBook ws b → r .answer ≡ valueIn (list.lookup k (storedOf ws b))
-  pub accepted : (why : Refusal) → r .answer ≡ answers.Refused why → ⊥
 
 -- an insert, of the values
 abbrev pub putting : Expiring → ℕ → ℕ → Items → Items

@@ -4,10 +4,10 @@ ghost use lib.ListN.{length};
 ghost use Rattle.time.specs.declared.refusal.Outcome.the-variants.{Refused};
 ghost use Rattle.fast_lru.specs.Model.{without};
 ghost use Rattle.expiring_model.specs.declared.answers.Answer.the-variants as answers;
-ghost use Rattle.expiring_model.specs.Model.{contains, peek, get, insert, remove, clear, insertWithTtl, ttlStatus, setTtl, purgeExpired, liveLen, expirations, nextDeadline, touch, recencyRank, popLru, peekLru, keep, set, drop, dropAll, rankIn};
+ghost use Rattle.expiring_model.specs.Model.{contains, peek, get, insert, remove, clear, insertWithTtl, ttlStatus, setTtl, purgeExpired, liveLen, expirations, nextDeadline, touch, recencyRank, popLru, peekLru, set, drop, dropAll, rankIn};
 ghost use Rattle.expiring.specs.Book.{Room, limitsOf, capacityOf, limitOf};
 ghost use Rattle.expiring.specs.Calls.{noBook, Following, Opening, Checking, DeadlinesHeld, HeapLength, SettingTtl};
-ghost use Rattle.expiring.specs.Steps.{ofFound, ofTold, ofOldest, ofDue, statusOf, isAccepted, comeBy, defaultedBy, saturatingSum, withList, withIndex, withExpired, replying, concluding, purging, DeadlineOf, Expired, Stored, StoredCount, ExpiredCount, Moved, same, Dating, Valuing, Inserting, PoppingExpired};
+ghost use Rattle.expiring.specs.Steps.{ofFound, ofTold, ofOldest, ofDue, statusOf, isAccepted, comeBy, defaultedBy, saturatingSum, withList, withIndex, withExpired, replying, concluding, purging, DeadlineOf, Expired, Stored, StoredCount, ExpiredCount, Moved, same, Dating, Inserting, PoppingExpired};
 ghost use Rattle.expiring.specs.Steps as steps;
 use crate::answers::Reply;
 use expiration_index::Deadline;
@@ -50,12 +50,6 @@ struct Dated {
     book: Expiring,
     is_set: bool,
     discarded: usize,
-}
-
-// A book after a step on its values, and the step's answer.
-struct Valued {
-    book: Expiring,
-    answer: Answer,
 }
 
 // A book after a look at its next due, whether that was expired and taken out, and how many stale entries were discarded.
@@ -314,8 +308,7 @@ impl Expiring {
             Outcome::Refused(why) => self.refused(why),
             Outcome::Done => {
                 if self.is_expired(words, tick, key) {
-                    let dropped = self.drop_both(words, key);
-                    let book = dropped.book;
+                    let book = self.drop_both(words, key);
                     return book.expired(1).answered(Answer::Nothing);
                 }
                 let got = self.inner.get(words, key);
@@ -747,32 +740,16 @@ impl Expiring {
         }
     }
 
-    // ---- steps on the values
+    // ---- steps on the values and the deadlines
 
-    fn drop_value(self, words: &mut [u64], key: u64) -> Valued
-        ensures { λ r. ⌜ Valuing (now (words .entry)) self keep key (without key) (now (words .exit)) r ⌝ }
+    // The value first, as the source has it.
+    fn drop_both(self, words: &mut [u64], key: u64) -> Expiring
+        requires { ⌜ Room (length (now words)) (capacityOf self) (limitOf self) ⌝ }
+        ensures { λ r. ⌜ Moved (now (words .entry)) self (drop key) (without key) (now (words .exit)) r 0 ⌝ }
     {
         let removed = self.inner.remove(words, key);
         let inner = removed.lru;
-        let answer = removed.answer;
-        Valued {
-            book: self.with_list(inner),
-            answer: of_found(answer),
-        }
-    }
-
-    // The value first, as the source has it.
-    fn drop_both(self, words: &mut [u64], key: u64) -> Valued
-        requires { ⌜ Room (length (now words)) (capacityOf self) (limitOf self) ⌝ }
-        ensures { λ r. ⌜ Valuing (now (words .entry)) self (drop key) key (without key) (now (words .exit)) r ⌝ }
-    {
-        let dropped = self.drop_value(words, key);
-        let book = dropped.book;
-        let answer = dropped.answer;
-        Valued {
-            book: book.drop_deadline(words, key),
-            answer,
-        }
+        self.with_list(inner).drop_deadline(words, key)
     }
 
     // ---- the larger calls, on words and numbers within their limits
@@ -876,13 +853,11 @@ impl Expiring {
             return self.answered(Answer::No);
         }
         if self.is_expired(words, tick, key) {
-            let dropped = self.drop_both(words, key);
-            let book = dropped.book;
+            let book = self.drop_both(words, key);
             return book.expired(1).answered(Answer::No);
         }
         if ticks.0 == 0 {
-            let dropped = self.drop_both(words, key);
-            let book = dropped.book;
+            let book = self.drop_both(words, key);
             return book.answered(Answer::No);
         }
         let dated = self.set_deadline(words, key, tick.deadline_from(ticks));
@@ -942,10 +917,10 @@ impl Expiring {
         let answer = looked.answer;
         match answer {
             Due::Pair(key, _) => {
-                let dropped = book.drop_value(words, key);
-                let book = dropped.book;
+                let removed = book.inner.remove(words, key);
+                let inner = removed.lru;
                 Popped {
-                    book,
+                    book: book.with_list(inner),
                     is_popped: true,
                     stale,
                 }

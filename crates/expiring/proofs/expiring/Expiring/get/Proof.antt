@@ -20,7 +20,7 @@ get-spec =
     (λ c κs. search needs)
     (λ c κs. search needs)
     (λ c. search needs)
-    (λ c. let d = c .before .before .before .before .before in let y = d .before .before in let x = y .before in let e = x .before .before in let s = e .before .before .before .before in let l = sym (e .before .before .limits .ensures) ∙ e .enum-told .given .1 in rw (c .answered .ensures, c .before .expired .ensures) (follow-get-expired _ _ _ l (omega (arith, s .good)) (x .is-expired .ensures) (y .if1 .taken) (d .drop-both .ensures)))
+    (λ c. let d = c .before .before .before .before in let y = d .before .before in let x = y .before in let e = x .before .before in let s = e .before .before .before .before in let l = sym (e .before .before .limits .ensures) ∙ e .enum-told .given .1 in rw (c .answered .ensures, c .before .expired .ensures) (follow-get-expired _ _ _ l (omega (arith, s .good)) (x .is-expired .ensures) (y .if1 .taken) (d .drop-both .ensures)))
     (λ c κs. search needs)
     (λ c κs. search needs)
     (λ c κs. search needs)
