@@ -25,13 +25,12 @@ use Rattle.expiration_index.specs.Model as pairs
 use Rattle.expiration_index.specs.Answers.{ofDeadline}
 use Rattle.expiration_index.specs.Index as index
 use Rattle.expiration_index.specs.Calls as calls
-use Rattle.expiring_model.specs.declared.answers.Answer.{Answer}
 use Rattle.expiring_model.specs.declared.answers.Answer.the-variants as answers
 use Rattle.expiring.specs.declared.expiring.Expiring.{Expiring}
 use Rattle.expiring_model.specs.Model.{keep, set, valueIn, pairsAfter}
 use Rattle.expiring_model.specs.Discards.{discards, heapAfter}
 use Rattle.expiring.specs.Book.{start, Room, capacityOf, limitOf, IsBook, heapOf}
-use Rattle.expiring.specs.Steps.{ofFound, isAccepted, withList, withIndex, storedOf, deadlinesOf, DeadlineOf, Moved, Dating}
+use Rattle.expiring.specs.Steps.{ofFound, isAccepted, withList, withIndex, deadlinesOf, DeadlineOf, Moved, Dating}
 use Rattle.expiring.proofs.Moving.{moved-list, lent, back, lent-is, lent-index, moved-index}
 use Rattle.expiring.proofs.Acting.{Accepted, no-refusal}
 

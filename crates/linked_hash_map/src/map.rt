@@ -577,10 +577,14 @@ impl LinkedHashMap {
     pub fn lengthened(self, refill_in: usize) -> LinkedHashMap
         ensures { λ r. ⌜ r ≡ longerMap self «refill_in» ⌝ }
     {
-        let n = self.capacity;
-        let len = if self.len < n { self.len + 1 } else { n };
+        let capacity = self.capacity;
+        let len = if self.len < capacity {
+            self.len + 1
+        } else {
+            capacity
+        };
         LinkedHashMap {
-            capacity: n,
+            capacity,
             len,
             refill_in,
         }
