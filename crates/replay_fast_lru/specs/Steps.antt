@@ -2,7 +2,8 @@
 use mathlib.Core.Path.{_≡_}
 use mathlib.Core.Bool.{Bool}
 use mathlib.Core.List.{List}
-use Prim.Native.Nat.{ℕ, _<_}
+use Prim.Native.Nat.{ℕ, _<_, _≤_}
+use lib.ListN.{length}
 use Rattle.fast_lru.specs.declared.lru.FastLru.{FastLru}
 use Rattle.fast_lru.specs.declared.answers.Opened.{Opened}
 use Rattle.fast_lru.specs.declared.answers.Got.{Got}
@@ -18,6 +19,7 @@ use Rattle.fast_lru.specs.Calls.{Opening, Clearing, Length, Emptiness, Capacity
 use Rattle.replay.specs.declared.answer.Answer.{Answer}
 use Rattle.replay.specs.declared.call.Call.{Call}
 use Rattle.replay.specs.Answers.{ofBool, unknown}
+use Rattle.replay.specs.Runs.{Run}
 use Rattle.replay_fast_lru.specs.Answers.{ofOutcome, ofFound, ofOldest, ofRank, ofTold, ofCount}
 
 -- the item that a call brings
@@ -41,3 +43,18 @@ pub data Ran (ws : List ℕ) (l : FastLru) (c : Call) : List ℕ → FastLru →
   askedCapacity : {r : Count} → c .operation ≡ 13 → Capacity ws l r → Ran ws l c ws l (ofCount r)
   checked : {r : Bool} → c .operation ≡ 14 → Checking ws l r → Ran ws l c ws l (ofBool r)
   other : 14 < c .operation → Ran ws l c ws l unknown
+
+-- an operation that has no loop of its own
+pub record Single (o : ℕ) : Type 0 where
+  pub not-insert : o ≡ 2 → ⊥
+  pub not-get : o ≡ 3 → ⊥
+  pub not-touch : o ≡ 6 → ⊥
+  pub not-peek : o ≡ 7 → ⊥
+
+-- the calls from one on, of so many, up to the k-th: they make a run of the calls before them longer
+pub record Onward (cs : List ℕ) (from count : ℕ) (ws : List ℕ) (l : FastLru) (out : List ℕ) (k : ℕ) (ws′ : List ℕ) (l′ : FastLru) (out′ : List ℕ) : Type 0 where
+  pub start : from ≤ k
+  pub end : k ≤ count
+  pub words : length ws′ ≡ length ws
+  pub answers : length out′ ≡ length out
+  pub on : {ws₀ : List ℕ} {l₀ : FastLru} {out₀ : List ℕ} → Run Ran cs ws₀ l₀ out₀ from ws l out → Run Ran cs ws₀ l₀ out₀ k ws′ l′ out′

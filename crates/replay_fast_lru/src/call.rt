@@ -1,15 +1,14 @@
 // One call of the list.
 ghost use mathlib.Core.Path.{_≡_};
 ghost use Prim.Native.Nat.{_<_, _≤_};
-ghost use Rattle.replay_fast_lru.specs.Answers.{ofOutcome, ofFound, ofOldest, ofRank, ofTold};
-ghost use Rattle.replay_fast_lru.specs.Steps.{Ran};
+ghost use Rattle.replay_fast_lru.specs.Answers.{ofOutcome, ofFound, ofOldest, ofRank};
+ghost use Rattle.replay_fast_lru.specs.Steps.{Ran, Single};
 use crate::answer;
 use fast_lru::FastLru;
 use fast_lru::Got;
 use fast_lru::Opened;
 use fast_lru::Popped;
 use fast_lru::Ranked;
-use fast_lru::Touched;
 use replay::Answer;
 use replay::Call;
 
@@ -19,7 +18,9 @@ pub struct Reply {
     pub answer: Answer,
 }
 
+// An operation that has no loop of its own.
 pub fn step(words: &mut [u64], lru: FastLru, call: Call) -> Reply
+    requires { ⌜ Single (call .operation) ⌝ }
     ensures { λ r. ⌜ Ran (now (words .entry)) lru call (now (words .exit)) (r .lru) (r .answer) ⌝ }
 {
     let operation = call.operation;
@@ -40,7 +41,7 @@ pub fn step(words: &mut [u64], lru: FastLru, call: Call) -> Reply
 }
 
 fn write(words: &mut [u64], lru: FastLru, call: Call) -> Reply
-    requires { ⌜ call .operation < 7 ⌝ }
+    requires { ⌜ (call .operation < 7) × Single (call .operation) ⌝ }
     ensures { λ r. ⌜ Ran (now (words .entry)) lru call (now (words .exit)) (r .lru) (r .answer) ⌝ }
 {
     let operation = call.operation;
@@ -48,26 +49,19 @@ fn write(words: &mut [u64], lru: FastLru, call: Call) -> Reply
     match operation {
         0 => opened(FastLru::new(words, key as usize)),
         1 => opened(lru.clear(words)),
-        2 => got(lru.insert(words, key, call.second)),
-        3 => got(lru.get(words, key)),
         4 => got(lru.remove(words, key)),
-        5 => popped(lru.pop_lru(words)),
-        _ => touched(lru.touch(words, key)),
+        _ => popped(lru.pop_lru(words)),
     }
 }
 
 // Looks at an item, and moves nothing.
 fn look(words: &[u64], lru: FastLru, call: Call) -> Reply
-    requires { ⌜ (7 ≤ call .operation) × (call .operation < 11) ⌝ }
+    requires { ⌜ (7 ≤ call .operation) × (call .operation < 11) × Single (call .operation) ⌝ }
     ensures { λ r. ⌜ Ran (now (words .entry)) lru call (now (words .entry)) (r .lru) (r .answer) ⌝ }
 {
     let operation = call.operation;
     let key = call.first;
     match operation {
-        7 => Reply {
-            lru,
-            answer: answer::of_found(lru.peek(words, key)),
-        },
         8 => Reply {
             lru,
             answer: answer::of_told(lru.contains(words, key)),
@@ -119,15 +113,6 @@ fn popped(r: Popped) -> Reply
     let lru = r.lru;
     let oldest = r.answer;
     let answer = answer::of_oldest(oldest);
-    Reply { lru, answer }
-}
-
-fn touched(r: Touched) -> Reply
-    ensures { λ s. ⌜ s ≡ record { lru = r .lru; answer = ofTold (r .answer) } ⌝ }
-{
-    let lru = r.lru;
-    let told = r.answer;
-    let answer = answer::of_told(told);
     Reply { lru, answer }
 }
 

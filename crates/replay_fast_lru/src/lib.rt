@@ -15,5 +15,6 @@
 mod answer;
 mod call;
 mod list;
+mod runs;
 
 pub use list::fast_lru_replay;

@@ -1,11 +1,13 @@
 // A list of calls.
 ghost use mathlib.Core.Path.{_≡_};
-ghost use Prim.Native.Nat.{_*_, _≤_};
+ghost use Prim.Native.Nat.{_*_, _<_, _≤_};
 ghost use lib.ListN.{length};
 ghost use Rattle.replay.specs.Runs.{Run, Replayed};
 ghost use Rattle.replay_fast_lru.specs.Numbers.{lruIn, withLru};
-ghost use Rattle.replay_fast_lru.specs.Steps.{Ran};
+ghost use Rattle.replay_fast_lru.specs.Steps.{Ran, Onward};
 use crate::call;
+use crate::runs;
+use crate::runs::Reached;
 use fast_lru::FastLru;
 
 // Runs the calls on the words, and on the list's numbers. Says how many calls it ran: as many as have room for an answer,
@@ -35,13 +37,43 @@ fn run(words: &mut [u64], lru: FastLru, calls: &[u64], answers: &mut [u64], coun
     let mut lru = lru;
     let mut i = 0;
     while i < count {
-        let reply = call::step(words, lru, replay::call_at(calls, i));
-        let answer = reply.answer;
-        replay::store_answer(answers, i, answer);
-        lru = reply.lru;
-        i += 1;
+        let reached = run_on(words, lru, calls, answers, i, count);
+        lru = reached.lru;
+        i = reached.i;
     }
     lru
+}
+
+// Runs a call, and where it is of an operation that has a loop of its own, those after it that are too.
+fn run_on(
+    words: &mut [u64],
+    lru: FastLru,
+    calls: &[u64],
+    answers: &mut [u64],
+    from: usize,
+    count: usize,
+) -> Reached
+    requires { ⌜ (4 * count ≤ length (now calls)) × (4 * count ≤ length (now answers)) × (from < count) ⌝ }
+    ensures { λ r. ⌜ Onward (now (calls .entry)) from count (now (words .entry)) lru (now (answers .entry)) (r .i) (now (words .exit)) (r .lru) (now (answers .exit)) × (from < r .i) ⌝ }
+{
+    let call = replay::call_at(calls, from);
+    let operation = call.operation;
+    match operation {
+        2 => runs::inserts(words, lru, calls, answers, from, count),
+        3 => runs::gets(words, lru, calls, answers, from, count),
+        6 => runs::touches(words, lru, calls, answers, from, count),
+        7 => Reached {
+            lru,
+            i: runs::peeks(words, lru, calls, answers, from, count),
+        },
+        _ => {
+            let reply = call::step(words, lru, call);
+            let answer = reply.answer;
+            replay::store_answer(answers, from, answer);
+            let lru = reply.lru;
+            Reached { lru, i: from + 1 }
+        }
+    }
 }
 
 fn lru_in(numbers: &[u64]) -> FastLru

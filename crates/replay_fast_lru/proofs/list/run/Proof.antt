@@ -1,10 +1,10 @@
--- The invariant: the first i calls have run, and the slices have their lengths. A turn adds one call.
-use mathlib.Core.Path.{_≡_, refl}
+-- The invariant: the first i calls have run, and the slices have their lengths. A turn adds a call or more.
+use mathlib.Core.Path.{_≡_, refl, _∙_}
 use Prim.Native.Nat.{_-_, _≤_}
 use native.Mathlib.Omega.{arith}
 use lib.ListN.{length}
 use borrow.Author.Needs.{needs}
-use Rattle.replay.specs.Runs.{Run, none, more}
+use Rattle.replay.specs.Runs.{Run, none}
 use Rattle.replay_fast_lru.specs.Steps.{Ran}
 use Rattle.replay_fast_lru.proofs.list.run.Statement.{statement}
 use Rattle.replay_fast_lru.proofs.list.run.Tie as tie
@@ -22,15 +22,9 @@ run-spec =
     Inv-loop
     μ-loop
     (λ c. (search needs, refl, refl, none))
-    (λ c κs. search needs)
-    (λ c κs. search needs)
-    (λ c κs. search needs)
-    (λ c. search needs)
-    (λ c. search needs)
-    (λ c.
-    let d = c .before .before .before in
-    let e = d .before .before .before .before .before in
-    (search needs, search needs, search needs, rw (d .store-answer .ensures) (more (e .before .before .before .before .loop .inv .3) (rw (e .before .call-at .ensures) at (e .step .ensures)))))
+    (λ c κs. (search needs, omega (arith, c .before .before .before .loop .inv .2), search needs))
+    (λ c. omega (arith, c .before .before .before .before .before .run-on .ensures .1))
+    (λ c. let o = c .before .before .before .before .before .run-on .ensures .0 in let v = c .before .before .before .before .before .before .before .before .before .loop .inv in (o .end, o .words ∙ v .1, o .answers ∙ v .2, o .on (v .3)))
     (λ c. search needs)
     (λ c. search needs)
     (λ c.
