@@ -356,8 +356,8 @@ impl LinkedHashMap {
     }
 
     // Puts the record of a new key at the front, and its cell at c, where there are fewer records than the capacity. Answers the
-    // new `refill_in`; the numbers are then those of `lengthened`. The two calls that change a ring at a place take and answer
-    // single numbers: a struct goes through memory, and its reader waits for it.
+    // new `refill_in`; the numbers are then those of `lengthened`. It and `take_at` take and answer single numbers: a struct
+    // goes through memory, and its reader waits for it.
     pub fn insert_at(
         words: &mut [u64],
         capacity: usize,

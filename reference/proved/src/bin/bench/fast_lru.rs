@@ -47,7 +47,7 @@ struct Row {
     lists: fn(&mut SplitMix64, &[u64]) -> Vec<Vec<Call>>,
 }
 
-const ROWS: [Row; 7] = [
+const ROWS: [Row; 8] = [
     Row {
         name: "get, hit",
         lists: |random, keys| lists_of(|| Call::Get(pick(random, keys))),
@@ -75,6 +75,21 @@ const ROWS: [Row; 7] = [
     Row {
         name: "peek",
         lists: |random, keys| lists_of(|| Call::Peek(pick(random, keys))),
+    },
+    // In the other rows but "remove and insert" each call is of the same operation as the one before.
+    Row {
+        name: "peek and get in turn",
+        lists: |random, keys| {
+            let mut turn = 0;
+            lists_of(|| {
+                turn += 1;
+                let key = pick(random, keys);
+                match turn % 2 {
+                    0 => Call::Peek(key),
+                    _ => Call::Get(key),
+                }
+            })
+        },
     },
 ];
 
