@@ -1,11 +1,8 @@
-use mathlib.Core.Path.{ap, _∙_}
-use Prim.Native.Nat.{ℕ, _-_, _*_}
+use Prim.Native.Nat.{_-_}
 use native.Mathlib.Omega.{arith}
-use lib.ListN.{getD}
 use borrow.Author.Needs.{needs}
-use Rattle.replay.specs.declared.call.Call.{Call}
 use Rattle.replay_fast_lru.specs.Steps.{inserted, Onward}
-use Rattle.replay_fast_lru.proofs.Onward.{further, on-start, on-more}
+use Rattle.replay_fast_lru.proofs.Onward.{on-start, on-stop, on-more}
 use Rattle.replay_fast_lru.proofs.runs.inserts.Statement.{statement}
 use Rattle.replay_fast_lru.proofs.runs.inserts.Tie as tie
 
@@ -25,7 +22,7 @@ inserts-spec =
     (λ c κs. search needs)
     (λ c. c .before .before .before .before .loop .inv .words)
     (λ c. c .before .before .before .before .loop .inv .answers)
-    (λ c. let d = c .before .before in let o = c .before .before .before .before .loop .inv in (o, λ e. further (o .start) (λ q. c .if1 .taken (ap (λ (x : Call). x .operation) (d .call-at .ensures) ∙ ap (λ (j : ℕ). getD (c .before .before .before .before .before .before .before .before .args .calls .now) (4 * j) 0) q ∙ e))))
+    (λ c. let d = c .before .before in on-stop (d .before .before .loop .inv) (d .call-at .ensures) (c .if1 .taken))
     (λ c κs. search needs)
     (λ c κs. search needs)
     (λ c κs. omega (arith, c .before .before .before .before .before .before .before .before .before .before .loop .inv .answers))
