@@ -1,3 +1,4 @@
+pub mod Storing
 pub mod Frames
 pub mod Limits
 pub mod Moving
@@ -5,6 +6,7 @@ pub mod Asking
 pub mod Acting
 pub mod Valuing
 pub mod Calling
+pub mod Changing
 pub mod Popping
 pub mod Opening
 pub mod Lifetimes

@@ -68,7 +68,7 @@ set-accepted d k l = go (isFull d k l)
     go true = refl
     go false = held-accepted (pairs.lookup k l)
 
-refused-how : (a : Deadline) → isAccepted a ≡ false → (why : Refusal) × (ofDeadline a ≡ outcome.Refused why)
+pub refused-how : (a : Deadline) → isAccepted a ≡ false → (why : Refusal) × (ofDeadline a ≡ outcome.Refused why)
 refused-how (deadline.At d) e = absurd (true≢false e)
 refused-how deadline.Nothing e = absurd (true≢false e)
 refused-how (deadline.Refused why) e = (why, refl)

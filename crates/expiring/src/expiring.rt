@@ -9,6 +9,8 @@ ghost use Rattle.expiring.specs.Book.{Room, limitsOf, capacityOf, limitO
 ghost use Rattle.expiring.specs.Calls.{noBook, Following, Opening, Checking, DeadlinesHeld, HeapLength, SettingTtl};
 ghost use Rattle.expiring.specs.Steps.{ofFound, ofTold, ofOldest, ofDue, statusOf, isAccepted, comeBy, defaultedBy, saturatingSum, withList, withIndex, withExpired, replying, concluding, purging, DeadlineOf, Expired, Stored, StoredCount, ExpiredCount, Moved, same, Dating, Inserting, PoppingExpired};
 ghost use Rattle.expiring.specs.Steps as steps;
+mod changes;
+
 use crate::answers::Reply;
 use expiration_index::Deadline;
 use expiration_index::Due;

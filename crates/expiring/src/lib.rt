@@ -11,6 +11,7 @@
 // nothing; on words and numbers that form no book, only they may change.
 mod answers;
 mod expiring;
+mod numbers;
 
 pub use answers::Reply;
 pub use expiring::Expiring;

@@ -1,0 +1,92 @@
+// The book's numbers in words: twelve, in the order of the structs. A call that is handed them in words changes those that change
+// where they stand, while a struct that a call takes or answers is copied in memory, and its reader waits for the copy.
+ghost use mathlib.Core.Path.{_≡_};
+ghost use Prim.Native.Nat.{_≤_};
+ghost use lib.ListN.{length};
+ghost use Rattle.expiring.specs.Numbers.{lruIn, indexIn, defaultIn, bookIn, withLru, withDeadlines};
+use crate::expiring::Expiring;
+use expiration_index::ExpirationIndex;
+use expiring_model::DefaultTtl;
+use fast_lru::FastLru;
+use lazy_heap::LazyMinHeap;
+use linked_hash_map::LinkedHashMap;
+use time::TtlTicks;
+
+fn list_in(numbers: &[u64]) -> FastLru
+    requires { ⌜ 12 ≤ length (now numbers) ⌝ }
+    ensures { λ r. ⌜ r ≡ lruIn (now (numbers .entry)) ⌝ }
+{
+    FastLru {
+        map: LinkedHashMap {
+            capacity: numbers[0] as usize,
+            len: numbers[1] as usize,
+            refill_in: numbers[2] as usize,
+        },
+    }
+}
+
+fn index_in(numbers: &[u64]) -> ExpirationIndex
+    requires { ⌜ 12 ≤ length (now numbers) ⌝ }
+    ensures { λ r. ⌜ r ≡ indexIn (now (numbers .entry)) ⌝ }
+{
+    ExpirationIndex {
+        heap: LazyMinHeap {
+            scores: LinkedHashMap {
+                capacity: numbers[3] as usize,
+                len: numbers[4] as usize,
+                refill_in: numbers[5] as usize,
+            },
+            entries: numbers[6] as usize,
+            seq: numbers[7],
+            factor: numbers[8] as usize,
+        },
+    }
+}
+
+fn default_in(given: u64, ticks: u64) -> DefaultTtl
+    ensures { λ r. ⌜ r ≡ defaultIn given ticks ⌝ }
+{
+    if given == 0 {
+        return DefaultTtl::Nothing;
+    }
+    DefaultTtl::Of(TtlTicks(ticks))
+}
+
+pub fn book_in(numbers: &[u64]) -> Expiring
+    requires { ⌜ 12 ≤ length (now numbers) ⌝ }
+    ensures { λ r. ⌜ r ≡ bookIn (now (numbers .entry)) ⌝ }
+{
+    let inner = list_in(numbers);
+    let index = index_in(numbers);
+    let default_ttl = default_in(numbers[9], numbers[10]);
+    Expiring {
+        inner,
+        index,
+        default_ttl,
+        expirations: numbers[11],
+    }
+}
+
+// The numbers of the list that a call may change.
+pub fn store_list(numbers: &mut [u64], inner: FastLru)
+    requires { ⌜ 12 ≤ length (now numbers) ⌝ }
+    ensures { λ _. ⌜ now (numbers .exit) ≡ withLru (now (numbers .entry)) inner ⌝ }
+{
+    let map = inner.map;
+    numbers[1] = map.len as u64;
+    numbers[2] = map.refill_in as u64;
+}
+
+// And those of the index.
+pub fn store_index(numbers: &mut [u64], index: ExpirationIndex)
+    requires { ⌜ 12 ≤ length (now numbers) ⌝ }
+    ensures { λ _. ⌜ now (numbers .exit) ≡ withDeadlines (now (numbers .entry)) index ⌝ }
+{
+    let heap = index.heap;
+    let scores = heap.scores;
+    numbers[4] = scores.len as u64;
+    numbers[5] = scores.refill_in as u64;
+    numbers[6] = heap.entries as u64;
+    numbers[7] = heap.seq;
+    numbers[8] = heap.factor as u64;
+}
