@@ -3,9 +3,11 @@ use mathlib.Core.Path.{_≡_, refl, sym, ap, subst, _∙_}
 use mathlib.Core.Bool.{Bool, true, false, cond}
 use mathlib.Core.List.{List}
 use Prim.Native.Nat.{ℕ, _^_, _<_, _≤_}
-use lib.ListN.{length, getD, set}
+use lib.ListN.{length, getD}
 use Rattle.time.specs.declared.tick.Tick.{Tick}
 use Rattle.time.specs.declared.refusal.Refusal.the-variants.{KeyLimitReached}
+use Rattle.time.specs.declared.refusal.Outcome.{Outcome}
+use Rattle.time.specs.declared.refusal.Outcome.the-variants.{Done}
 use Rattle.fast_lru.specs.declared.answers.Found.{Found}
 use Rattle.fast_lru.specs.declared.answers.Got.{Got}
 use Rattle.fast_lru.specs.Model.{Items}
@@ -18,15 +20,18 @@ use Rattle.expiration_index.specs.Calls as calls
 use Rattle.expiring_model.specs.declared.answers.Answer.{Answer}
 use Rattle.expiring_model.specs.declared.answers.Answer.the-variants as answers
 use Rattle.expiring.specs.declared.expiring.Expiring.{Expiring}
-use Rattle.expiring_model.specs.Model.{Change}
-use Rattle.expiring.specs.Book.{IsBook}
-use Rattle.expiring.specs.Numbers.{lruIn, indexIn, bookIn, withLru, withDeadlines}
-use Rattle.expiring.specs.Steps.{ofFound, comeBy, saturatingSum, withList, withIndex, storedOf, DeadlineOf, Moved, same, beyond, expiredIn, valueOf, unless, Acting, concluding, Inserting, replying}
+use Rattle.expiring_model.specs.declared.lifetimes.DefaultTtl.{DefaultTtl}
+use Rattle.expiring_model.specs.Model.{Call, Change, drop}
+use Rattle.expiring.specs.Book.{limitsOf, capacityOf, limitOf, IsBook}
+use Rattle.expiring.specs.Calls.{Following}
+use Rattle.expiring.specs.Numbers.{lruIn, indexIn, bookIn, withLru, withDeadlines, withExpiration}
+use Rattle.expiring.specs.Steps.{ofFound, comeBy, withList, withIndex, storedOf, DeadlineOf, Moved, same, beyond, expiredIn, valueOf, unless, Acting, concluding, Inserting, replying}
 use Rattle.expiring.specs.Changes.{Ready, replyIn, Setting, Dropping, Putting, Taking, Concluding}
-use Rattle.expiring.proofs.Moving.{lent, back, index-kept, moved-drop}
+use Rattle.expiring.proofs.Moving.{lent, back, index-kept, moved-drop, moved-later}
+use Rattle.expiring.proofs.Limits.{limits-room}
 use Rattle.expiring.proofs.Calling.{inserting, removing}
-use Rattle.expiring.proofs.Valuing.{refused-how, dating, set-held, removed-held}
-use Rattle.expiring.proofs.Storing.{lru-stored, deadlines-stored, expired-stored, stay-same, stay-lru, stay-deadlines, stay-expired}
+use Rattle.expiring.proofs.Valuing.{refused-how, dating, set-held, removed-held, dropping}
+use Rattle.expiring.proofs.Storing.{lru-stored, deadlines-stored, expiration-stored, stay-same, stay-lru, stay-deadlines, stay-expiration}
 
 -- ---- the index's numbers, and then its part of the words
 module _ {ns ws : List ℕ} (ready : Ready ns (length ws)) (k : ℕ) {ys : List ℕ} {r : Changed} where
@@ -71,8 +76,8 @@ module _ {ns ws ws′ : List ℕ} (h : 12 ≤ length ns) (k : ℕ) {r : Got} whe
 
 -- ---- the expirations
 module _ {ns : List ℕ} (x : Found) (old : Deadline) (t : Tick) where
-  pub concluding-expired : {n : ℕ} → 12 ≤ length ns → comeBy old t ≡ true → n ≡ saturatingSum (getD ns 11 0) 1 → Concluding ns x old t (set ns 11 n) answers.Nothing
-  concluding-expired {n} h e q = record { stay = stay-expired ns n; reply = λ d. rw (e, expired-stored ns n h, q) refl }
+  pub concluding-expired : 12 ≤ length ns → comeBy old t ≡ true → Concluding ns x old t (withExpiration ns) answers.Nothing
+  concluding-expired h e = record { stay = stay-expiration ns; reply = λ d. rw e (ap (λ (b : Expiring). record { book = b; answer = answers.Nothing; discarded = d }) (expiration-stored ns h)) }
 
   pub concluding-found : {a : Answer} → comeBy old t ≡ false → a ≡ ofFound x → Concluding ns x old t ns a
   concluding-found e q = record { stay = stay-same ns; reply = λ d. rw (e, q) refl }
@@ -95,3 +100,27 @@ module _ (ns ns₁ : List ℕ) (part : bookIn ns₁ ≡ withIndex (bookIn ns) (i
 -- a refusal, where no number changes
 pub full-after : (ns ns′ : List ℕ) {ws ws′ : List ℕ} {ch : Change} {s : Items} {n : ℕ} {a : Answer} → bookIn ns′ ≡ bookIn ns → Acting ws (bookIn ns) ch s n a ws′ (replying (bookIn ns) (answers.Refused KeyLimitReached)) → Acting ws (bookIn ns) ch s n a ws′ (replyIn ns′ (record { answer = answers.Refused KeyLimitReached; discarded = 0 }))
 full-after ns ns′ {ws} {ws′} {ch} {s} {n} {a} e o = subst (λ b. Acting ws (bookIn ns) ch s n a ws′ (replying b (answers.Refused KeyLimitReached))) (sym e) o
+
+-- ---- both, one after the other
+pub dropped-both : (ns ns₁ ns₂ : List ℕ) {ws ws₁ ws₂ : List ℕ} {k : ℕ} {o : Deadline} {x : Found} → Dropping ns ws k ns₁ ws₁ o → Taking ns₁ ws₁ k ns₂ ws₂ x → Moved ws (bookIn ns) (drop k) (list.without k) ws₂ (bookIn ns₂) 0
+dropped-both ns ns₁ ns₂ {ws} {ws₁} {ws₂} {k} {x = x} o p =
+    let b = withIndex (bookIn ns) (indexIn ns₁) in
+    let call = subst (λ l. lru.Removing ws₁ l k ws₂ (record { lru = lruIn ns₂; answer = x })) (same-list ns ns₁ (o .part)) (p .call) in
+    subst (λ b. Moved ws (bookIn ns) (drop k) (list.without k) ws₂ b 0) (sym (p .part ∙ ap (λ (b : Expiring). withList b (lruIn ns₂)) (o .part))) (moved-later (o .moved) (dropping b k call))
+
+-- ---- calls
+-- a book that was read is the one that the numbers tell
+module _ (ns : List ℕ) {b : Expiring} (e : b ≡ bookIn ns) where
+  pub limits-in : (size : ℕ) {o o′ : Outcome} → o ≡ limitsOf (capacityOf b) (limitOf b) size → o ≡ o′ → limitsOf (capacityOf (bookIn ns)) (limitOf (bookIn ns)) size ≡ o′
+  limits-in size {o} {o′} l q = subst (λ b. limitsOf (capacityOf b) (limitOf b) size ≡ o′) e (sym l ∙ q)
+
+  pub default-in : {l : DefaultTtl} → b .«default_ttl» ≡ l → bookIn ns .«default_ttl» ≡ l
+  default-in q = sym (ap (λ (b : Expiring). b .«default_ttl») e) ∙ q
+
+pub ready-in : (ns : List ℕ) {size : ℕ} → 12 ≤ length ns → limitsOf (capacityOf (bookIn ns)) (limitOf (bookIn ns)) size ≡ Done → Ready ns size
+ready-in ns h l = record { numbers = h; room = limits-room _ _ _ l }
+
+-- a reply whose numbers were stored
+module _ {ws ws′ : List ℕ} {b : Expiring} {t : Tick} {c : Call} {a : Answer} {d : ℕ} where
+  pub told-in : (ns : List ℕ) {b′ : Expiring} → b′ ≡ bookIn ns → Following ws b t c ws′ (record { book = b′; answer = a; discarded = d }) → Following ws b t c ws′ (replyIn ns (record { answer = a; discarded = d }))
+  told-in ns e o = subst (λ b′. Following ws b t c ws′ (record { book = b′; answer = a; discarded = d })) e o

@@ -1,18 +1,16 @@
 -- The numbers that are stored are read back, and no others change.
-use mathlib.Core.Path.{_≡_, refl, sym, ap, _∙_}
+use mathlib.Core.Path.{_≡_, refl, sym, _∙_}
 use mathlib.Core.Logic.{_≢_}
 use mathlib.Core.List.{List, [], _∷_}
-use Prim.Native.Nat.{ℕ, _≤_, _<_}
+use Prim.Native.Nat.{ℕ, _≤_}
 use native.Mathlib.Omega.{arith}
-use lib.ListN.{length, getD, set, length-set}
+use lib.ListN.{length, getD, length-set}
 use lib.Seq.{getD-set-other}
 use Rattle.fast_lru.specs.declared.lru.FastLru.{FastLru}
 use Rattle.expiration_index.specs.declared.index.ExpirationIndex.{ExpirationIndex}
-use Rattle.expiring.specs.declared.expiring.Expiring.{Expiring}
-use Rattle.expiring.specs.Book.{capacityOf, limitOf}
-use Rattle.expiring.specs.Numbers.{lruIn, indexIn, bookIn, withLru, withDeadlines}
+use Rattle.expiring.specs.Numbers.{bookIn, withLru, withDeadlines, withExpiration}
 use Rattle.expiring.specs.Changes.{Stay}
-use Rattle.expiring.specs.Steps.{withList, withIndex}
+use Rattle.expiring.specs.Steps.{withList, withIndex, withExpired}
 
 -- ---- twelve numbers
 pub data Twelve : List ℕ → Type 0 where
@@ -48,10 +46,11 @@ deadlines-stored ns x h c = go (as-twelve ns h) c
     go : {ns : List ℕ} → Twelve ns → x .heap .scores .capacity ≡ getD ns 3 0 → bookIn (withDeadlines ns x) ≡ withIndex (bookIn ns) x
     go (twelve ns) c = rw (sym c) refl
 
-pub expired-stored : (ns : List ℕ) (n : ℕ) → 12 ≤ length ns → bookIn (set ns 11 n) ≡ record { inner = lruIn ns; index = indexIn ns; «default_ttl» = bookIn ns .«default_ttl»; expirations = n }
-expired-stored ns n h = go (as-twelve ns h)
+pub expiration-stored : (ns : List ℕ) → 12 ≤ length ns → bookIn (withExpiration ns) ≡ withExpired (bookIn ns) 1
+unfolding withExpiration
+expiration-stored ns h = go (as-twelve ns h)
   where
-    go : {ns : List ℕ} → Twelve ns → bookIn (set ns 11 n) ≡ record { inner = lruIn ns; index = indexIn ns; «default_ttl» = bookIn ns .«default_ttl»; expirations = n }
+    go : {ns : List ℕ} → Twelve ns → bookIn (withExpiration ns) ≡ withExpired (bookIn ns) 1
     go (twelve ns) = refl
 
 -- ---- and no others change
@@ -69,5 +68,6 @@ pub stay-deadlines : (ns : List ℕ) (x : ExpirationIndex) → Stay ns (withDead
 unfolding withDeadlines
 stay-deadlines ns x = record { size = simp length-set; others = λ j a b c d e f g h. simp getD-set-other }
 
-pub stay-expired : (ns : List ℕ) (n : ℕ) → Stay ns (set ns 11 n)
-stay-expired ns n = record { size = simp length-set; others = λ j a b c d e f g h. simp getD-set-other }
+pub stay-expiration : (ns : List ℕ) → Stay ns (withExpiration ns)
+unfolding withExpiration
+stay-expiration ns = record { size = simp length-set; others = λ j a b c d e f g h. simp getD-set-other }

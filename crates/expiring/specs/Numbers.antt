@@ -1,11 +1,9 @@
 -- The book's numbers in words: the list's three, the index's six, the default lifetime and the expirations.
 use mathlib.Core.Bool.{cond}
 use mathlib.Core.List.{List}
-use mathlib.Core.Path.{_≡_}
-use mathlib.Core.Logic.{_≢_}
-use Prim.Native.Nat.{ℕ, _≤_}
+use Prim.Native.Nat.{ℕ, _+_, _-_, _^_, min}
 use lib.Dec.{eqb}
-use lib.ListN.{length, getD, set}
+use lib.ListN.{getD, set}
 use Rattle.fast_lru.specs.declared.lru.FastLru.{FastLru}
 use Rattle.expiration_index.specs.declared.index.ExpirationIndex.{ExpirationIndex}
 use Rattle.expiring.specs.declared.expiring.Expiring.{Expiring}
@@ -41,3 +39,7 @@ withLru ns l = set (set ns 1 (l .map .len)) 2 (l .map .refill_in)
 
 unfoldable pub withDeadlines : List ℕ → ExpirationIndex → List ℕ
 withDeadlines ns x = set (set (set (set (set ns 4 (x .heap .scores .len)) 5 (x .heap .scores .refill_in)) 6 (x .heap .entries)) 7 (x .heap .seq)) 8 (x .heap .factor)
+
+-- one expiration more; the count stops at u64::MAX
+unfoldable pub withExpiration : List ℕ → List ℕ
+withExpiration ns = set ns 11 (min (getD ns 11 0 + 1) (2 ^ 64 - 1))

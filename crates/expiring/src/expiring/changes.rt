@@ -2,11 +2,13 @@
 ghost use mathlib.Core.Path.{_≡_};
 ghost use Prim.Native.Nat.{_≤_};
 ghost use lib.ListN.{length};
-ghost use Rattle.expiring_model.specs.Model.{set, drop, remove};
+ghost use Rattle.expiring_model.specs.Model.{set, drop, get, remove, insert, insertWithTtl, setTtl};
 ghost use Rattle.expiring.specs.Book.{capacityOf, limitOf};
-ghost use Rattle.expiring.specs.Numbers.{bookIn};
+ghost use Rattle.fast_lru.specs.Model.{without};
+ghost use Rattle.expiring.specs.Numbers.{bookIn, withExpiration};
+ghost use Rattle.expiring.specs.Calls.{SettingTtl};
 ghost use Rattle.expiring.specs.Changes.{Ready, Stay, replyIn, Setting, Dropping, Putting, Taking, Concluding, Changing};
-ghost use Rattle.expiring.specs.Steps.{Inserting, Removing};
+ghost use Rattle.expiring.specs.Steps.{Moved, Inserting, Removing};
 use crate::expiring::has_come;
 use crate::expiring::is_accepted;
 use crate::expiring::of_found;
@@ -14,10 +16,14 @@ use crate::expiring::saturating_sum;
 use crate::numbers;
 use expiration_index::Deadline;
 use expiring_model::Answer;
+use expiring_model::DefaultTtl;
 use fast_lru::Found;
+use time::Duration;
 use time::Outcome;
 use time::Refusal;
 use time::Tick;
+use time::Ticked;
+use time::TtlTicks;
 
 // The answer of a call, and how many entries of the heap it discarded. The book's numbers after it are in their words.
 pub struct Said {
@@ -29,6 +35,15 @@ pub struct Said {
 struct Redated {
     old: Deadline,
     discarded: usize,
+}
+
+fn answering(answer: Answer) -> Said
+    ensures { λ r. ⌜ r ≡ record { answer = answer; discarded = 0 } ⌝ }
+{
+    Said {
+        answer,
+        discarded: 0,
+    }
 }
 
 // ---- steps
@@ -86,16 +101,32 @@ fn drop_value(numbers: &mut [u64], words: &mut [u64], key: u64) -> Found
     found
 }
 
+// One expiration more; the count stops at u64::MAX.
+fn count_expiration(numbers: &mut [u64])
+    requires { ⌜ 12 ≤ length (now numbers) ⌝ }
+    ensures { λ _. ⌜ now (numbers .exit) ≡ withExpiration (now (numbers .entry)) ⌝ }
+{
+    numbers[11] = saturating_sum(numbers[11], 1);
+}
+
 // The answer is what the list found of the key, unless its old deadline had come.
 fn concluded(numbers: &mut [u64], found: Found, old: Deadline, tick: Tick) -> Answer
     requires { ⌜ 12 ≤ length (now numbers) ⌝ }
     ensures { λ r. ⌜ Concluding (now (numbers .entry)) found old tick (now (numbers .exit)) r ⌝ }
 {
     if has_come(old, tick) {
-        numbers[11] = saturating_sum(numbers[11], 1);
+        count_expiration(numbers);
         return Answer::Nothing;
     }
     of_found(found)
+}
+
+fn drop_both(numbers: &mut [u64], words: &mut [u64], key: u64)
+    requires { ⌜ Ready (now numbers) (length (now words)) ⌝ }
+    ensures { λ _. ⌜ Stay (now (numbers .entry)) (now (numbers .exit)) × Moved (now (words .entry)) (bookIn (now (numbers .entry))) (drop key) (without key) (now (words .exit)) (bookIn (now (numbers .exit))) 0 ⌝ }
+{
+    drop_deadline(numbers, words, key);
+    drop_value(numbers, words, key);
 }
 
 // ---- the larger steps
@@ -153,5 +184,137 @@ fn remove_within(numbers: &mut [u64], words: &mut [u64], tick: Tick, key: u64) -
     Said {
         answer: concluded(numbers, found, old, tick),
         discarded: 0,
+    }
+}
+
+fn set_ttl_within(
+    numbers: &mut [u64],
+    words: &mut [u64],
+    tick: Tick,
+    key: u64,
+    ticks: TtlTicks,
+) -> Said
+    requires { ⌜ Ready (now numbers) (length (now words)) ⌝ }
+    ensures { λ r. ⌜ Stay (now (numbers .entry)) (now (numbers .exit)) × SettingTtl (now (words .entry)) (bookIn (now (numbers .entry))) tick key ticks (now (words .exit)) (replyIn (now (numbers .exit)) r) ⌝ }
+{
+    let book = numbers::book_in(numbers);
+    if !book.is_stored(words, key) {
+        return answering(Answer::No);
+    }
+    if book.is_expired(words, tick, key) {
+        drop_both(numbers, words, key);
+        count_expiration(numbers);
+        return answering(Answer::No);
+    }
+    if ticks.0 == 0 {
+        drop_both(numbers, words, key);
+        return answering(Answer::No);
+    }
+    let dated = set_deadline(numbers, words, key, tick.deadline_from(ticks));
+    let old = dated.old;
+    if !is_accepted(old) {
+        return answering(Answer::Refused(Refusal::KeyLimitReached));
+    }
+    Said {
+        answer: Answer::Yes,
+        discarded: dated.discarded,
+    }
+}
+
+// ---- the calls
+
+// It moves the key to the front; an expired one it removes.
+pub fn get(numbers: &mut [u64], words: &mut [u64], tick: Tick, key: u64) -> Said
+    requires { ⌜ 12 ≤ length (now numbers) ⌝ }
+    ensures { λ r. ⌜ Changing (now (numbers .entry)) (now (words .entry)) tick (get key) (now (numbers .exit)) (now (words .exit)) r ⌝ }
+{
+    let book = numbers::book_in(numbers);
+    match book.limits(words.len()) {
+        Outcome::Refused(why) => answering(Answer::Refused(why)),
+        Outcome::Done => {
+            if book.is_expired(words, tick, key) {
+                drop_both(numbers, words, key);
+                count_expiration(numbers);
+                return answering(Answer::Nothing);
+            }
+            let got = book.inner.get(words, key);
+            let inner = got.lru;
+            let answer = got.answer;
+            numbers::store_list(numbers, inner);
+            answering(of_found(answer))
+        }
+    }
+}
+
+pub fn remove(numbers: &mut [u64], words: &mut [u64], tick: Tick, key: u64) -> Said
+    requires { ⌜ 12 ≤ length (now numbers) ⌝ }
+    ensures { λ r. ⌜ Changing (now (numbers .entry)) (now (words .entry)) tick (remove key) (now (numbers .exit)) (now (words .exit)) r ⌝ }
+{
+    let book = numbers::book_in(numbers);
+    match book.limits(words.len()) {
+        Outcome::Refused(why) => answering(Answer::Refused(why)),
+        Outcome::Done => remove_within(numbers, words, tick, key),
+    }
+}
+
+// With the default lifetime, or with none.
+pub fn insert(numbers: &mut [u64], words: &mut [u64], tick: Tick, key: u64, value: u64) -> Said
+    requires { ⌜ 12 ≤ length (now numbers) ⌝ }
+    ensures { λ r. ⌜ Changing (now (numbers .entry)) (now (words .entry)) tick (insert key value) (now (numbers .exit)) (now (words .exit)) r ⌝ }
+{
+    let book = numbers::book_in(numbers);
+    match book.limits(words.len()) {
+        Outcome::Refused(why) => answering(Answer::Refused(why)),
+        Outcome::Done => {
+            let default_ttl = book.default_ttl;
+            match default_ttl {
+                DefaultTtl::Of(ttl) => {
+                    insert_until(numbers, words, tick, key, value, tick.deadline_from(ttl))
+                }
+                DefaultTtl::Nothing => insert_forever(numbers, words, tick, key, value),
+            }
+        }
+    }
+}
+
+// Exactly zero removes the key.
+pub fn insert_with_ttl(
+    numbers: &mut [u64],
+    words: &mut [u64],
+    tick: Tick,
+    key: u64,
+    value: u64,
+    ttl: Duration,
+) -> Said
+    requires { ⌜ 12 ≤ length (now numbers) ⌝ }
+    ensures { λ r. ⌜ Changing (now (numbers .entry)) (now (words .entry)) tick (insertWithTtl key value ttl) (now (numbers .exit)) (now (words .exit)) r ⌝ }
+{
+    let book = numbers::book_in(numbers);
+    match book.limits(words.len()) {
+        Outcome::Refused(why) => answering(Answer::Refused(why)),
+        Outcome::Done => match time::duration_to_ticks(ttl) {
+            Ticked::Refused(why) => answering(Answer::Refused(why)),
+            Ticked::Ticks(ticks) => {
+                if ttl.is_zero() {
+                    return remove_within(numbers, words, tick, key);
+                }
+                insert_until(numbers, words, tick, key, value, tick.deadline_from(ticks))
+            }
+        },
+    }
+}
+
+// 0 ticks remove the key.
+pub fn set_ttl(numbers: &mut [u64], words: &mut [u64], tick: Tick, key: u64, ttl: Duration) -> Said
+    requires { ⌜ 12 ≤ length (now numbers) ⌝ }
+    ensures { λ r. ⌜ Changing (now (numbers .entry)) (now (words .entry)) tick (setTtl key ttl) (now (numbers .exit)) (now (words .exit)) r ⌝ }
+{
+    let book = numbers::book_in(numbers);
+    match book.limits(words.len()) {
+        Outcome::Refused(why) => answering(Answer::Refused(why)),
+        Outcome::Done => match time::duration_to_ticks(ttl) {
+            Ticked::Refused(why) => answering(Answer::Refused(why)),
+            Ticked::Ticks(ticks) => set_ttl_within(numbers, words, tick, key, ticks),
+        },
     }
 }

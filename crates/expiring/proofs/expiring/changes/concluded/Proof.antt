@@ -1,5 +1,5 @@
-use Rattle.expiring.proofs.Changing.{concluding-expired, concluding-found}
 use mathlib.Core.Path.{sym, _∙_}
+use Rattle.expiring.proofs.Changing.{concluding-expired, concluding-found}
 use borrow.Author.Needs.{needs}
 use Rattle.expiring.proofs.expiring.changes.concluded.Statement.{statement}
 use Rattle.expiring.proofs.expiring.changes.concluded.Tie as tie
@@ -9,12 +9,13 @@ concluded-spec =
     tie.close
     (tie.spec
     (λ c κs. search needs)
-    (λ c. search needs)
     (λ c κs. search needs)
-    (λ c. search needs)
     (λ c. search needs)
     (λ c.
-    let h = c .before .before .before in
-    concluding-expired _ _ _ (h .before .before .pre) (sym (h .has-come .ensures) ∙ c .before .before .if1 .taken) (c .saturating-sum .ensures))
+    let k = c .before .before in
+    let i = k .before .before in
+    let h = i .before in
+    rw (k .count-expiration .ensures) (concluding-expired _ _ _ (h .before .before .pre) (sym (h .has-come .ensures) ∙ i .if1 .taken)))
     (λ c κs. search needs)
-    (λ c. concluding-found _ _ _ (sym (c .before .before .has-come .ensures) ∙ c .before .if1 .left) (c .of-found .ensures)))
+    (λ c.
+    concluding-found _ _ _ (sym (c .before .before .has-come .ensures) ∙ c .before .if1 .left) (c .of-found .ensures)))
