@@ -1,5 +1,5 @@
 -- Stale entries leave from the top: what is left to discard, and what was, stay the same together.
-use mathlib.Core.Path.{_≡_, refl, sym, ap, _∙_}
+use mathlib.Core.Path.{_≡_, refl, sym, ap, _∙_, subst}
 use mathlib.Core.Bool.{true, false, true≢false}
 use mathlib.Core.List.{List, [], _∷_}
 use Prim.Native.Nat.{ℕ, _+_, _-_, _<_, _≤_}
@@ -23,7 +23,7 @@ use Rattle.lazy_heap.specs.declared.heap.LazyMinHeap.{LazyMinHeap}
 use Rattle.lazy_heap.specs.Words.{part, Room}
 use Rattle.lazy_heap_model.specs.Model.{live, staleBefore, fromLive}
 use Rattle.lazy_heap.specs.Heap.{heldOf, entriesOf, Parts}
-use Rattle.lazy_heap.specs.Steps.{Entered, Popping, settledBy, Settled, Discarding}
+use Rattle.lazy_heap.specs.Steps.{Entered, Popping, settledBy, Settled, withEntries, Discarding}
 use Rattle.lazy_heap.specs.Walks.{LivingAt}
 
 -- ---- a key's slot, and whether an entry is live
@@ -113,58 +113,82 @@ pub entered-same : (ws : List ℕ) (h : LazyMinHeap) → Entered ws h ws h
 entered-same ws h = record { scores = refl; seq = refl; factor = refl; held = λ p. refl; places = λ p i. refl; kept = record { size = refl; past = λ j g. refl } }
 
 -- d entries are gone, and at most `left` may still go
-pub record Settling (ws₀ : List ℕ) (h₀ : LazyMinHeap) (ws : List ℕ) (h : LazyMinHeap) (d left : ℕ) : Type 0 where
-  pub entered : Entered ws₀ h₀ ws h
-  pub counted : d + left ≡ h₀ .entries
-  pub parts : Parts ws₀ h₀ → Parts ws h
-  pub count : Parts ws₀ h₀ → h .entries ≡ left
-  pub ahead : Parts ws₀ h₀ → fromLive (heldOf ws₀ h₀) (entriesOf ws h) ≡ fromLive (heldOf ws₀ h₀) (entriesOf ws₀ h₀)
-  pub gone : Parts ws₀ h₀ → d + staleBefore (heldOf ws₀ h₀) (entriesOf ws h) ≡ staleBefore (heldOf ws₀ h₀) (entriesOf ws₀ h₀)
+pub record Settling (ws₀ : List ℕ) (h : LazyMinHeap) (ws : List ℕ) (d left : ℕ) : Type 0 where
+  pub entered : Entered ws₀ h ws (withEntries h left)
+  pub counted : d + left ≡ h .entries
+  pub parts : Parts ws₀ h → Parts ws (withEntries h left)
+  pub ahead : Parts ws₀ h → fromLive (heldOf ws₀ h) (entriesOf ws (withEntries h left)) ≡ fromLive (heldOf ws₀ h) (entriesOf ws₀ h)
+  pub gone : Parts ws₀ h → d + staleBefore (heldOf ws₀ h) (entriesOf ws (withEntries h left)) ≡ staleBefore (heldOf ws₀ h) (entriesOf ws₀ h)
 
-pub settling-start : (ws : List ℕ) (h : LazyMinHeap) → Settling ws h ws h 0 (h .entries)
-settling-start ws h = record { entered = entered-same ws h; counted = omega arith; parts = λ p. p; count = λ p. refl; ahead = λ p. refl; gone = λ p. omega arith }
+pub settling-start : (ws : List ℕ) (h : LazyMinHeap) → Settling ws h ws 0 (h .entries)
+settling-start ws h = record { entered = entered-same ws h; counted = omega arith; parts = λ p. p; ahead = λ p. refl; gone = λ p. omega arith }
 
 -- a stale entry leaves
-pub settling-on : {ws₀ ws ws′ : List ℕ} {h₀ h r : LazyMinHeap} {d left : ℕ} → Settling ws₀ h₀ ws h d left → 0 < left → Settled ws h false → Popping ws h ws′ r → Settling ws₀ h₀ ws′ r (d + 1) (left - 1)
-settling-on {ws₀} {ws} {ws′} {h₀} {h} {r} {d} {left} s more stale pop = record {
-  entered = entered-then (s .entered) (s .parts) (pop .entered);
+pub settling-on : {ws₀ ws ws′ : List ℕ} {h r : LazyMinHeap} {d left : ℕ} → Settling ws₀ h ws d left → 0 < left → Settled ws (withEntries h left) false → Popping ws (withEntries h left) ws′ r → Settling ws₀ h ws′ (d + 1) (left - 1)
+settling-on {ws₀} {ws} {ws′} {h} {r} {d} {left} s more stale pop = record {
+  entered = record {
+    scores = refl;
+    seq = refl;
+    factor = refl;
+    held = λ p. ap (map.modelOf ws′) (sym (pop .entered .scores)) ∙ pop .entered .held (s .parts p) ∙ s .entered .held p;
+    places = λ p i. pop .entered .places (s .parts p) i ∙ s .entered .places p i;
+    kept = record {
+      size = pop .entered .kept .size ∙ s .entered .kept .size;
+      past = λ j g. pop .entered .kept .past j g ∙ s .entered .kept .past j g;
+    };
+  };
   counted = omega (arith, s .counted);
-  parts = λ p. pop .parts (s .parts p);
-  count = λ p. pop .count (s .parts p) ∙ ap (λ (n : ℕ). n - 1) (s .count p);
-  ahead = λ p. let o = at p in ap (fromLive (heldOf ws₀ h₀)) (pop .entries (s .parts p)) ∙ sym (o .0) ∙ s .ahead p;
-  gone = λ p. let o = at p in omega (arith, s .gone p, o .1, ap (staleBefore (heldOf ws₀ h₀)) (pop .entries (s .parts p)));
+  parts = λ p. subst (Parts ws′) (popped p) (pop .parts (s .parts p));
+  ahead = λ p. let o = at p in ap (fromLive (heldOf ws₀ h)) (left-over p) ∙ sym (o .0) ∙ s .ahead p;
+  gone = λ p. let o = at p in omega (arith, s .gone p, o .1, ap (staleBefore (heldOf ws₀ h)) (left-over p));
 }
   where
-    Gone : Type 0
-    Gone = (fromLive (heldOf ws₀ h₀) (entriesOf ws h) ≡ fromLive (heldOf ws₀ h₀) (rest (entriesOf ws h))) × (staleBefore (heldOf ws₀ h₀) (entriesOf ws h) ≡ 1 + staleBefore (heldOf ws₀ h₀) (rest (entriesOf ws h)))
+    popped : Parts ws₀ h → r ≡ withEntries h (left - 1)
+    popped p = λ i. record { scores = pop .entered .scores i; entries = pop .count (s .parts p) i; seq = pop .entered .seq i; factor = pop .entered .factor i }
 
-    at : Parts ws₀ h₀ → Gone
-    at p = go (first (entriesOf ws h)) refl (stale .answer (s .parts p))
+    left-over : Parts ws₀ h → entriesOf ws′ (withEntries h (left - 1)) ≡ rest (entriesOf ws (withEntries h left))
+    left-over p = ap (entriesOf ws′) (sym (popped p)) ∙ pop .entries (s .parts p)
+
+    Gone : Type 0
+    Gone = (fromLive (heldOf ws₀ h) (entriesOf ws (withEntries h left)) ≡ fromLive (heldOf ws₀ h) (rest (entriesOf ws (withEntries h left)))) × (staleBefore (heldOf ws₀ h) (entriesOf ws (withEntries h left)) ≡ 1 + staleBefore (heldOf ws₀ h) (rest (entriesOf ws (withEntries h left))))
+
+    at : Parts ws₀ h → Gone
+    at p = go (first (entriesOf ws (withEntries h left))) refl (stale .answer (s .parts p))
       where
-        go : (t : Top) → first (entriesOf ws h) ≡ t → false ≡ settledBy ws h (first (entriesOf ws h)) → Gone
-        go (top.Entry e) q f = stale-first (heldOf ws₀ h₀) (entriesOf ws h) e q (ap (λ (l : List Record). live l e) (sym (s .entered .held p)) ∙ sym (f ∙ ap (settledBy ws h) q))
-        go top.Nothing q f = absurd (true≢false (sym (f ∙ ap (settledBy ws h) q)))
+        go : (t : Top) → first (entriesOf ws (withEntries h left)) ≡ t → false ≡ settledBy ws (withEntries h left) (first (entriesOf ws (withEntries h left))) → Gone
+        go (top.Entry e) q f = stale-first (heldOf ws₀ h) (entriesOf ws (withEntries h left)) e q (ap (λ (l : List Record). live l e) (sym (s .entered .held p)) ∙ sym (f ∙ ap (settledBy ws (withEntries h left)) q))
+        go top.Nothing q f = absurd (true≢false (sym (f ∙ ap (settledBy ws (withEntries h left)) q)))
 
 -- the loop ends where no stale entry is at the top, or no entry is left
-module _ {ws₀ ws : List ℕ} {h₀ h : LazyMinHeap} {d left : ℕ} (s : Settling ws₀ h₀ ws h d left) where
-  ended : ((p : Parts ws₀ h₀) → (fromLive (heldOf ws₀ h₀) (entriesOf ws h) ≡ entriesOf ws h) × (staleBefore (heldOf ws₀ h₀) (entriesOf ws h) ≡ 0)) → Discarding ws₀ h₀ ws (record { heap = h; discarded = d })
-  ended last = record {
+module _ {ws₀ ws : List ℕ} {h : LazyMinHeap} {d left : ℕ} (s : Settling ws₀ h ws d left) where
+  abbrev es : List Entry
+  es = entriesOf ws (withEntries h left)
+
+  ended : ((p : Parts ws₀ h) → (fromLive (heldOf ws₀ h) es ≡ es) × (staleBefore (heldOf ws₀ h) es ≡ 0)) → Discarding ws₀ h ws (record { heap = withEntries h (h .entries - d); discarded = d })
+  ended last = rw (sym rest-is) (record {
     entered = s .entered;
-    fewer = λ p. omega (arith, s .counted, s .count p);
+    fewer = omega (arith, s .counted);
     parts = s .parts;
     entries = λ p. sym (last p .0) ∙ s .ahead p;
     discarded = λ p. omega (arith, s .gone p, last p .1);
-  }
-
-  pub settled-top : Settled ws h true → Discarding ws₀ h₀ ws (record { heap = h; discarded = d })
-  settled-top t = ended (λ p. go p (first (entriesOf ws h)) refl (t .answer (s .parts p)))
+  })
     where
-      go : Parts ws₀ h₀ → (u : Top) → first (entriesOf ws h) ≡ u → true ≡ settledBy ws h (first (entriesOf ws h)) → (fromLive (heldOf ws₀ h₀) (entriesOf ws h) ≡ entriesOf ws h) × (staleBefore (heldOf ws₀ h₀) (entriesOf ws h) ≡ 0)
-      go p (top.Entry e) q f = live-first (heldOf ws₀ h₀) (entriesOf ws h) e q (ap (λ (l : List Record). live l e) (sym (s .entered .held p)) ∙ sym (f ∙ ap (settledBy ws h) q))
-      go p top.Nothing q f = none-left (heldOf ws₀ h₀) (entriesOf ws h) (none-first (heldOf ws₀ h₀) (entriesOf ws h) q)
+      rest-is : left ≡ h .entries - d
+      rest-is = omega (arith, s .counted)
 
-  pub settled-empty : left ≤ 0 → Discarding ws₀ h₀ ws (record { heap = h; discarded = d })
-  settled-empty z = ended (λ p. none-left (heldOf ws₀ h₀) (entriesOf ws h) (no-entries (entriesOf ws h) (model-length (part (h .scores .capacity) ws) (h .entries) ∙ s .count p ∙ omega arith)))
+  pub settled-top : Settled ws (withEntries h left) true → Discarding ws₀ h ws (record { heap = withEntries h (h .entries - d); discarded = d })
+  settled-top t = ended (λ p. go p (first es) refl (t .answer (s .parts p)))
+    where
+      go : Parts ws₀ h → (u : Top) → first es ≡ u → true ≡ settledBy ws (withEntries h left) (first es) → (fromLive (heldOf ws₀ h) es ≡ es) × (staleBefore (heldOf ws₀ h) es ≡ 0)
+      go p (top.Entry e) q f = live-first (heldOf ws₀ h) es e q (ap (λ (l : List Record). live l e) (sym (s .entered .held p)) ∙ sym (f ∙ ap (settledBy ws (withEntries h left)) q))
+      go p top.Nothing q f = none-left (heldOf ws₀ h) es (none-first (heldOf ws₀ h) es q)
+
+  pub settled-empty : left ≤ 0 → Discarding ws₀ h ws (record { heap = withEntries h (h .entries - d); discarded = d })
+  settled-empty z = ended (λ p. none-left (heldOf ws₀ h) es (no-entries es (model-length (part (h .scores .capacity) ws) left ∙ omega arith)))
+
+-- `settle` told by the numbers that `with_entries` made
+pub settled-as : {ws ws′ : List ℕ} {h r : LazyMinHeap} {d : ℕ} → Discarding ws h ws′ (record { heap = withEntries h (h .entries - d); discarded = d }) → r ≡ withEntries h (h .entries - d) → Discarding ws h ws′ (record { heap = r; discarded = d })
+settled-as o e = rw e o
 
 -- the limits hold after a step as before
 pub room-entered : {ws ws′ : List ℕ} {h r : LazyMinHeap} → Entered ws h ws′ r → Room (length ws) (h .scores .capacity) → Room (length ws′) (r .scores .capacity)

@@ -96,10 +96,14 @@ settledBy ws h top.Nothing = true
 pub record Settled (ws : List ℕ) (h : LazyMinHeap) (r : Bool) : Type 0 where
   pub answer : Parts ws h → r ≡ settledBy ws h (first (entriesOf ws h))
 
+-- `with_entries`
+abbrev pub withEntries : LazyMinHeap → ℕ → LazyMinHeap
+withEntries h n = record { scores = h .scores; entries = n; seq = h .seq; factor = h .factor }
+
 -- `settle`: stale entries gone from the top
 pub record Discarding (ws : List ℕ) (h : LazyMinHeap) (ws′ : List ℕ) (r : Step) : Type 0 where
   pub entered : Entered ws h ws′ (r .heap)
-  pub fewer : Parts ws h → r .heap .entries ≤ h .entries
+  pub fewer : r .discarded ≤ h .entries
   pub parts : Parts ws h → Parts ws′ (r .heap)
   pub entries : Parts ws h → entriesOf ws′ (r .heap) ≡ fromLive (heldOf ws h) (entriesOf ws h)
   pub discarded : Parts ws h → r .discarded ≡ staleBefore (heldOf ws h) (entriesOf ws h)

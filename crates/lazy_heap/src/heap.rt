@@ -5,7 +5,7 @@ ghost use lib.ListN.{length};
 ghost use Rattle.lazy_heap.specs.Words.{limitsOf, limitsWith, Room};
 ghost use Rattle.lazy_heap_model.specs.Model.{atLeastOne, factorOf, len, heapLen, atMost};
 ghost use Rattle.lazy_heap.specs.Calls.{Opening, Resetting, Asking, AskingEmpty, Scoring, Removing, PeekingBest, PoppingBest, PoppingAtMost, RebuildingNow, RebuildingMaybe, RenumberingNow, Clearing, Updating, Checking};
-ghost use Rattle.lazy_heap.specs.Steps.{bestOf, Adding, Filling, after, Storing, Crowding, Living, Pushing, Popping, Peeking, CountingEntries, Taking, Settled, Discarding, Rebuilding, Numbered, Renumbering, Fitting, Trimming, Holding};
+ghost use Rattle.lazy_heap.specs.Steps.{bestOf, Adding, Filling, after, Storing, Crowding, Living, Pushing, Popping, Peeking, CountingEntries, Taking, Settled, withEntries, Discarding, Rebuilding, Numbered, Renumbering, Fitting, Trimming, Holding};
 ghost use Rattle.lazy_heap.specs.Walks.{CountingWithin, Sound, Agreeing};
 use crate::walks;
 use crate::walks::slot_number;
@@ -621,23 +621,37 @@ impl LazyMinHeap {
         }
     }
 
-    // Discards stale entries from the top, up to the first live one.
-    fn settle(self, words: &mut [u64]) -> Step
-        requires { ⌜ Room (length (now words)) (self .scores .capacity) ⌝ }
-        ensures { λ r. ⌜ Discarding (now (words .entry)) self (now (words .exit)) r ⌝ }
+    // The numbers with another count of entries.
+    fn with_entries(self, entries: usize) -> LazyMinHeap
+        ensures { λ r. ⌜ r ≡ withEntries self entries ⌝ }
     {
-        let mut heap = self;
+        let scores = self.scores;
+        LazyMinHeap {
+            scores,
+            entries,
+            seq: self.seq,
+            factor: self.factor,
+        }
+    }
+
+    // Discards stale entries from the top, up to the first live one, and answers how many. (One number: a struct would be
+    // stored in memory, and the caller's reads of it wait for the stores.)
+    fn settle(self, words: &mut [u64]) -> usize
+        requires { ⌜ Room (length (now words)) (self .scores .capacity) ⌝ }
+        ensures { λ r. ⌜ Discarding (now (words .entry)) self (now (words .exit)) (record { heap = withEntries self (self .entries - r); discarded = r }) ⌝ }
+    {
         let mut discarded = 0;
         let mut left = self.entries;
         while 0 < left {
+            let heap = self.with_entries(left);
             if heap.is_settled(words) {
-                return Step { heap, discarded };
+                return discarded;
             }
-            heap = heap.pop(words);
+            heap.pop(words);
             discarded += 1;
             left -= 1;
         }
-        Step { heap, discarded }
+        discarded
     }
 
     // How many keys hold at most this score. Each has an entry, and no entry's score is below that of the first, live or
@@ -916,13 +930,13 @@ impl LazyMinHeap {
         requires { ⌜ Room (length (now words)) (self .scores .capacity) ⌝ }
         ensures { λ r. ⌜ PeekingBest (now (words .entry)) self (now (words .exit)) r ⌝ }
     {
-        let step = self.settle(words);
-        let heap = step.heap;
+        let discarded = self.settle(words);
+        let heap = self.with_entries(self.entries - discarded);
         let top = heap.top(words);
         Bested {
             heap,
             answer: best_of(top),
-            discarded: step.discarded,
+            discarded,
         }
     }
 
@@ -930,18 +944,18 @@ impl LazyMinHeap {
         requires { ⌜ Room (length (now words)) (self .scores .capacity) ⌝ }
         ensures { λ r. ⌜ PoppingBest (now (words .entry)) self (now (words .exit)) r ⌝ }
     {
-        let step = self.settle(words);
-        let settled = step.heap;
+        let discarded = self.settle(words);
+        let settled = self.with_entries(self.entries - discarded);
         match settled.top(words) {
             Top::Entry(e) => Bested {
                 heap: settled.take_top(words, e.key),
                 answer: Best::Pair(e.key, e.score),
-                discarded: step.discarded,
+                discarded,
             },
             Top::Nothing => Bested {
                 heap: settled,
                 answer: Best::Nothing,
-                discarded: step.discarded,
+                discarded,
             },
         }
     }
@@ -950,27 +964,27 @@ impl LazyMinHeap {
         requires { ⌜ Room (length (now words)) (self .scores .capacity) ⌝ }
         ensures { λ r. ⌜ PoppingAtMost (now (words .entry)) self score (now (words .exit)) r ⌝ }
     {
-        let step = self.settle(words);
-        let settled = step.heap;
+        let discarded = self.settle(words);
+        let settled = self.with_entries(self.entries - discarded);
         match settled.top(words) {
             Top::Entry(e) => {
                 if e.score <= score {
                     return Bested {
                         heap: settled.take_top(words, e.key),
                         answer: Best::Pair(e.key, e.score),
-                        discarded: step.discarded,
+                        discarded,
                     };
                 }
                 Bested {
                     heap: settled,
                     answer: Best::Nothing,
-                    discarded: step.discarded,
+                    discarded,
                 }
             }
             Top::Nothing => Bested {
                 heap: settled,
                 answer: Best::Nothing,
-                discarded: step.discarded,
+                discarded,
             },
         }
     }

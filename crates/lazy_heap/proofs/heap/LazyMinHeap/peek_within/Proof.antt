@@ -1,5 +1,5 @@
 use borrow.Author.Needs.{needs}
-use Rattle.lazy_heap.proofs.Settling.{room-entered}
+use Rattle.lazy_heap.proofs.Settling.{settled-as, room-entered}
 use Rattle.lazy_heap.proofs.Calling.{room-limits}
 use Rattle.lazy_heap.proofs.Best.{peeking-best}
 use Rattle.lazy_heap.proofs.heap.LazyMinHeap.peek_within.Statement.{statement}
@@ -10,7 +10,9 @@ peek-within-spec =
     tie.close
     (tie.spec
     (λ c κs. search needs)
-    (λ c κs. room-entered (c .before .before .before .before .settle .ensures .entered) (c .before .before .before .before .before .before .before .pre))
+    (λ c. search needs)
+    (λ c κs. search needs)
+    (λ c κs. let w = c .before in let d = settled-as (w .before .before .before .before .settle .ensures) (w .with-entries .ensures) in let pre = w .before .before .before .before .before .before .before .pre in room-entered (d .entered) pre)
     (λ c κs. search needs)
     (λ c. search needs)
-    (λ c. peeking-best (c .before .before .before .before .before .before .settle .ensures) (c .before .top .ensures) (room-limits (c .before .before .before .before .before .before .before .before .before .pre)) (c .best-of .ensures)))
+    (λ c. let w = c .before .before .before in let d = settled-as (w .before .before .before .before .settle .ensures) (w .with-entries .ensures) in let pre = w .before .before .before .before .before .before .before .pre in peeking-best d (c .before .top .ensures) (room-limits pre) (c .best-of .ensures)))
