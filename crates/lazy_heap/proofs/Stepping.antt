@@ -140,6 +140,7 @@ pub fitting-renumbered : {ws ws′ : List ℕ} {h r : LazyMinHeap} {d : ℕ} →
 unfolding beforePush
 fitting-renumbered {ws} {ws′} {h} e n d = record {
   word = omega arith;
+  same = λ not. absurd (not e);
   capacity = same-capacity (n .scores);
   parts = n .parts;
   model = λ p. n .model p ∙ sym (rw (eq-eqb (h .seq) (2 ^ 64 - 1) e));
@@ -152,6 +153,7 @@ pub fitting-same : (ws : List ℕ) (h : LazyMinHeap) → (h .seq ≡ 2 ^ 64 - 1 
 unfolding beforePush
 fitting-same ws h e w = record {
   word = w;
+  same = λ not. (refl, refl);
   capacity = refl;
   parts = λ p. p;
   model = λ p. sym (rw (ne-eqb (h .seq) (2 ^ 64 - 1) e));

@@ -8,16 +8,18 @@ use native.Mathlib.Omega.{arith}
 use native.Mathlib.Nat.{mul-le-mul}
 use lib.Dec.{eqb, leb}
 use lib.ListN.{length}
-use borrow.Author.Tests.{lt-ltb, le-leb, lt-leb, eqb-false}
+use borrow.Author.Tests.{lt-ltb, le-leb, eqb-false}
 use Rattle.rings.proofs.Counts.{by-lt}
 use Rattle.binary_heap.proofs.Laws.{insert-length}
 use Rattle.binary_heap.proofs.Laws.{model-length as array-length}
 use Rattle.linked_hash_map.specs.declared.map.Record.{Record}
-use Rattle.linked_hash_map.specs.declared.map.Slot.the-variants as slot
+use Rattle.linked_hash_map.specs.declared.map.Place.{Place}
+use Rattle.linked_hash_map.specs.declared.map.Place.the-variants as place
 use Rattle.linked_hash_map.specs.declared.map.Taken.the-variants as taken
 use Rattle.linked_hash_map.specs.Model.{has, lookup, without}
-use Rattle.linked_hash_map.specs.Map.{slotOf}
-use Rattle.linked_hash_map.proofs.Laws.{Keyed, held, absent, keyed}
+use Rattle.linked_hash_map.specs.Calls.{placeOf}
+use Rattle.linked_hash_map.proofs.Probed.{free-not-at, hit, miss}
+use Rattle.linked_hash_map.proofs.Places.{at-place, free-place, full-no-map, refused-no-map}
 use Rattle.linked_hash_map.proofs.Putting.{model-length}
 use Rattle.time.specs.declared.refusal.Refusal.{Refusal}
 use Rattle.time.specs.declared.refusal.Refusal.the-variants.{KeyLimitReached}
@@ -30,7 +32,7 @@ use Rattle.lazy_heap.specs.Words.{part, limitsOf, Room}
 use Rattle.lazy_heap_model.specs.Model.{Heap, entryOf, atLeastOne, surplus, tooMany, numbered, heldScore, isFull, beforePush, renumbered, pushed, rebuilt, maybeRebuilt, updated, updateDiscards}
 use Rattle.lazy_heap.specs.Valid.{Valid}
 use Rattle.lazy_heap.specs.Heap.{heldOf, entriesOf, modelOf, Parts, IsHeap}
-use Rattle.lazy_heap.specs.Steps.{Filling, Adding, Fitting, Holding, Trimming}
+use Rattle.lazy_heap.specs.Steps.{isOver, Adding, Fitting, Holding, Trimming}
 use Rattle.lazy_heap.specs.Calls.{Updating}
 use Rattle.lazy_heap.proofs.Helds.{length-without-le}
 use Rattle.lazy_heap.proofs.Valid.{valid-rebuilt, valid-pushed, live-length, numbered-length, numbered-has}
@@ -39,43 +41,24 @@ use Rattle.lazy_heap.proofs.Calling.{refused-done, no-heap, Fair, fair-
 
 -- ---- as many keys held as the limit allows
 module _ (k : ℕ) (m : Heap) where
-  not-full : length (m .held) < m .limit → isFull k m ≡ false
-  unfolding isFull
-  not-full b = go (has k (m .held))
-    where
-      go : (u : Bool) → (not u && leb (m .limit) (length (m .held))) ≡ false
-      go true = refl
-      go false = lt-leb (m .limit) (length (m .held)) b
-
   held-not-full : has k (m .held) ≡ true → isFull k m ≡ false
   unfolding isFull
   held-not-full e = rw e
 
-  new-full : has k (m .held) ≡ false → m .limit ≤ length (m .held) → isFull k m ≡ true
+  new-full : has k (m .held) ≡ false → isFull k m ≡ leb (m .limit) (length (m .held))
   unfolding isFull
-  new-full e b = rw (e, le-leb (m .limit) (length (m .held)) b)
+  new-full e = rw e
 
-module _ (ws : List ℕ) (h : LazyMinHeap) (k : ℕ) where
-  held-length : length (heldOf ws h) ≡ h .scores .len
-  held-length = model-length ws (h .scores)
+-- the place of a key tells whether it is held
+pub over-full : {ws : List ℕ} (h : LazyMinHeap) (k : ℕ) (p : Place) → p ≡ placeOf ws (h .scores) k → Parts ws h → isFull k (modelOf ws h) ≡ isOver p (h .scores .len) (h .scores .capacity)
+over-full {ws} h k (place.At c s) e q = held-not-full k (modelOf ws h) (hit (q .scores) k (at-place ws (h .scores) k (sym e) .at) .held)
+over-full {ws} h k (place.Free c) e q = new-full k (modelOf ws h) (miss (q .scores) k (free-not-at (free-place ws (h .scores) k (sym e) .at)) .held) ∙ ap (leb (h .scores .capacity)) (model-length ws (h .scores))
+over-full h k place.Full e q = absurd (full-no-map k (sym e) (q .scores))
+over-full h k place.Refused e q = absurd (refused-no-map k (sym e) (q .scores))
 
-  pub filling-room : h .scores .len < h .scores .capacity → Filling ws h k false
-  filling-room b = record { answer = λ p. sym (not-full k (modelOf ws h) (omega (arith, held-length))) }
-
-  module _ (b : h .scores .capacity ≤ h .scores .len) where
-    pub filling-held : {s : ℕ} → slotOf ws (h .scores) k ≡ slot.At s → isFull k (modelOf ws h) ≡ false
-    filling-held {s} e = go (keyed ws (h .scores) k)
-      where
-        go : Keyed ws (h .scores) k → isFull k (modelOf ws h) ≡ false
-        go (held s r a c d) = held-not-full k (modelOf ws h) d
-        go (absent a c d) = absurd (let z : _≡_ {A = ℕ} 0 1 = cc in omega arith)
-
-    pub filling-new : slotOf ws (h .scores) k ≡ slot.Nothing → isFull k (modelOf ws h) ≡ true
-    filling-new e = go (keyed ws (h .scores) k)
-      where
-        go : Keyed ws (h .scores) k → isFull k (modelOf ws h) ≡ true
-        go (held s r a c d) = absurd (let z : _≡_ {A = ℕ} 0 1 = cc in omega arith)
-        go (absent a c d) = new-full k (modelOf ws h) d (omega (arith, held-length))
+-- what a number made to fit leaves of a place
+pub place-kept : {ws ws′ : List ℕ} {h : LazyMinHeap} {r : Step} {p : Place} (k : ℕ) → Fitting ws h ws′ r → p ≡ placeOf ws (h .scores) k → (h .seq ≡ 2 ^ 64 - 1 → ⊥) → p ≡ placeOf ws′ (r .heap .scores) k
+place-kept k fit e not = let q = fit .same not in e ∙ (λ i. placeOf (sym (q .1) i) (sym (q .0) i .scores) k)
 
 -- ---- a held key leaves room for itself
 without-held : (k : ℕ) (l : List Record) → has k l ≡ true → length (without k l) < length l
@@ -224,12 +207,12 @@ module _ {ws ws₁ ws₂ ws′ : List ℕ} {h : LazyMinHeap} {k s : ℕ} {a : St
         ∙ ap (λ (x : ℕ). x + c .discarded) (fit .discarded (is .parts))
         ∙ ap (λ (x : ℕ). cond (eqb (h .seq) (2 ^ 64 - 1)) (surplus m) 0 + x) (trim .discarded parts₂ (is .factor .1) ∙ ap (λ (n : Heap). cond (tooMany (h .factor) n) (surplus n) 0) second-is)
 
-  pub updating : {d : ℕ} → Filling ws h k false → Adding (a .discarded) (c .discarded) d → limitsOf (h .scores .capacity) (length ws) ≡ Done → Updating ws h k s ws′ (record { heap = c .heap; answer = b .answer; discarded = d })
+  pub updating : {d : ℕ} → (Parts ws h → isFull k (modelOf ws h) ≡ false) → Adding (a .discarded) (c .discarded) d → limitsOf (h .scores .capacity) (length ws) ≡ Done → Updating ws h k s ws′ (record { heap = c .heap; answer = b .answer; discarded = d })
   updating {d} room add t = record {
     outcome = inl (hold .accepted ∙ sym t);
     refused = λ why q. absurd (refused-done why (sym q ∙ hold .accepted));
-    answer = λ is. let new = sym (room .answer (is .parts)) in answer₃ is new ∙ sym (ap (λ (u : Bool). cond u (score.Refused KeyLimitReached) (heldScore (lookup k (heldOf ws h)))) new);
-    heap = λ is. heap₃ is (sym (room .answer (is .parts)));
+    answer = λ is. let new = room (is .parts) in answer₃ is new ∙ sym (ap (λ (u : Bool). cond u (score.Refused KeyLimitReached) (heldScore (lookup k (heldOf ws h)))) new);
+    heap = λ is. heap₃ is (room (is .parts));
     model = λ is new. third-is is new;
     discarded = λ is new. discarded₃ is new add;
     capacity = same-capacity (trim .scores) ∙ hold .capacity ∙ fit .capacity;
@@ -252,14 +235,14 @@ updating-refused {ws} {h} e = record {
   kept = kept-same (h .scores .capacity) ws;
 }
 
-pub updating-full : {ws : List ℕ} {h : LazyMinHeap} {k s : ℕ} → Filling ws h k true → limitsOf (h .scores .capacity) (length ws) ≡ Done → Updating ws h k s ws (record { heap = h; answer = score.Refused KeyLimitReached; discarded = 0 })
+pub updating-full : {ws : List ℕ} {h : LazyMinHeap} {k s : ℕ} → (Parts ws h → isFull k (modelOf ws h) ≡ true) → limitsOf (h .scores .capacity) (length ws) ≡ Done → Updating ws h k s ws (record { heap = h; answer = score.Refused KeyLimitReached; discarded = 0 })
 updating-full {ws} {h} {k} {s} full t = record {
   outcome = inr (t, refl);
   refused = λ why q. (refl, refl, refl);
-  answer = λ is. sym (ap (λ (u : Bool). cond u (score.Refused KeyLimitReached) (heldScore (lookup k (heldOf ws h)))) (sym (full .answer (is .parts))));
+  answer = λ is. sym (ap (λ (u : Bool). cond u (score.Refused KeyLimitReached) (heldScore (lookup k (heldOf ws h)))) (full (is .parts)));
   heap = λ is. is;
-  model = λ is new. absurd (true≢false (full .answer (is .parts) ∙ new));
-  discarded = λ is new. absurd (true≢false (full .answer (is .parts) ∙ new));
+  model = λ is new. absurd (true≢false (sym (full (is .parts)) ∙ new));
+  discarded = λ is new. absurd (true≢false (sym (full (is .parts)) ∙ new));
   capacity = refl;
   kept = kept-same (h .scores .capacity) ws;
 }

@@ -4,7 +4,7 @@ use mathlib.Core.Path.{_≡_}
 use mathlib.Core.Bool.{Bool, true, false, cond}
 use mathlib.Core.List.{List}
 use Prim.Native.Nat.{ℕ, _+_, _-_, _*_, _^_, _<_, _≤_}
-use lib.Dec.{eqb, ltb}
+use lib.Dec.{eqb, ltb, leb}
 use lib.ListN.{length, getD}
 use Rattle.binary_heap.specs.declared.entries.Entry.{Entry}
 use Rattle.binary_heap.specs.declared.heap.Top.{Top}
@@ -16,6 +16,8 @@ use Rattle.linked_hash_map.specs.declared.map.Slot.the-variants as slot
 use Rattle.linked_hash_map.specs.declared.map.LinkedHashMap.{LinkedHashMap}
 use Rattle.linked_hash_map.specs.declared.map.Record.{Record}
 use Rattle.linked_hash_map.specs.declared.map.Put.{Put}
+use Rattle.linked_hash_map.specs.declared.map.Place.{Place}
+use Rattle.linked_hash_map.specs.declared.map.Place.the-variants as place
 use Rattle.linked_hash_map.specs.declared.map.Placed.{Placed}
 use Rattle.linked_hash_map.specs.declared.map.Placed.the-variants as placed
 use Rattle.linked_hash_map.specs.Model.{lookup}
@@ -120,7 +122,7 @@ replacedScore placed.Inserted = score.Nothing
 replacedScore placed.Full = score.Nothing
 replacedScore placed.Refused = score.Nothing
 
--- `store`
+-- `store_at`
 pub record Storing (ws : List ℕ) (m : LinkedHashMap) (x : Record) (ws′ : List ℕ) (r : Stored) : Type 0 where
   pub put : Put
   pub putting : Putting ws m x ws′ put
@@ -158,6 +160,7 @@ pub record Renumbering (ws : List ℕ) (h : LazyMinHeap) (ws′ : List ℕ) (r :
 -- `fit_number`
 pub record Fitting (ws : List ℕ) (h : LazyMinHeap) (ws′ : List ℕ) (r : Step) : Type 0 where
   pub word : h .seq < 2 ^ 64
+  pub same : (h .seq ≡ 2 ^ 64 - 1 → ⊥) → (r .heap ≡ h) × (ws′ ≡ ws)
   pub capacity : r .heap .scores .capacity ≡ h .scores .capacity
   pub parts : Parts ws h → Parts ws′ (r .heap)
   pub model : Parts ws h → modelOf ws′ (r .heap) ≡ beforePush (modelOf ws h)
@@ -184,9 +187,12 @@ pub record Holding (ws : List ℕ) (h : LazyMinHeap) (k s : ℕ) (ws′ : List �
   pub answer : Parts ws h → isFull k (modelOf ws h) ≡ false → r .answer ≡ heldScore (lookup k (heldOf ws h))
   pub kept : Kept (h .scores .capacity) ws ws′
 
--- `is_full`
-pub record Filling (ws : List ℕ) (h : LazyMinHeap) (k : ℕ) (r : Bool) : Type 0 where
-  pub answer : Parts ws h → r ≡ isFull k (modelOf ws h)
+-- `is_over`
+abbrev pub isOver : Place → ℕ → ℕ → Bool
+isOver (place.At c s) l n = false
+isOver (place.Free c) l n = leb n l
+isOver place.Full l n = true
+isOver place.Refused l n = true
 
 -- `sum`
 pub record Adding (a b r : ℕ) : Type 0 where

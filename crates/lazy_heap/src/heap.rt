@@ -1,11 +1,12 @@
 // The heap's calls. A public call tests the limits and hands on to a private function, which may count on them.
 ghost use mathlib.Core.Path.{_≡_};
-ghost use Prim.Native.Nat.{_-_};
+ghost use Prim.Native.Nat.{_-_, _^_};
 ghost use lib.ListN.{length};
+ghost use Rattle.linked_hash_map.specs.Calls.{placeOf};
 ghost use Rattle.lazy_heap.specs.Words.{limitsOf, limitsWith, Room};
 ghost use Rattle.lazy_heap_model.specs.Model.{atLeastOne, factorOf, len, heapLen, atMost};
 ghost use Rattle.lazy_heap.specs.Calls.{Opening, Resetting, Asking, AskingEmpty, Scoring, Removing, PeekingBest, PoppingBest, PoppingAtMost, RebuildingNow, RebuildingMaybe, RenumberingNow, Clearing, Updating, Checking};
-ghost use Rattle.lazy_heap.specs.Steps.{bestOf, Adding, Filling, after, Storing, Crowding, Living, Pushing, Popping, Peeking, CountingEntries, Taking, Settled, withEntries, Discarding, Rebuilding, Numbered, Renumbering, Fitting, Trimming, Holding};
+ghost use Rattle.lazy_heap.specs.Steps.{bestOf, Adding, isOver, after, Storing, Crowding, Living, Pushing, Popping, Peeking, CountingEntries, Taking, Settled, withEntries, Discarding, Rebuilding, Numbered, Renumbering, Fitting, Trimming, Holding};
 ghost use Rattle.lazy_heap.specs.Walks.{CountingWithin, Sound, Agreeing};
 use crate::walks;
 use crate::walks::slot_number;
@@ -151,11 +152,12 @@ fn numbers_of(map: LinkedHashMap, answer: Score) -> Stored
     }
 }
 
-// What `put` does, told by the score that it replaces.
-fn store(map: LinkedHashMap, words: &mut [u64], item: Record) -> Stored
+// What `put` does at the place of its key, told by the score that it replaces.
+fn store_at(map: LinkedHashMap, words: &mut [u64], place: Place, item: Record) -> Stored
+    requires { ⌜ place ≡ placeOf (now words) map (item .key) ⌝ }
     ensures { λ r. ⌜ Storing (now (words .entry)) map item (now (words .exit)) r ⌝ }
 {
-    match map.seek(words, item.key) {
+    match place {
         Place::At(_, s) => {
             let old = map.replace_at(words, s, item);
             numbers_of(map, Score::Value(old.first))
@@ -178,6 +180,18 @@ fn store(map: LinkedHashMap, words: &mut [u64], item: Record) -> Stored
         }
         Place::Full => numbers_of(map, Score::Nothing),
         Place::Refused => numbers_of(map, Score::Nothing),
+    }
+}
+
+// A new key, with as many held as the limit allows.
+fn is_over(place: Place, len: usize, capacity: usize) -> bool
+    ensures { λ r. ⌜ r ≡ isOver place len capacity ⌝ }
+{
+    match place {
+        Place::At(_, _) => false,
+        Place::Free(_) => capacity <= len,
+        Place::Full => true,
+        Place::Refused => true,
     }
 }
 
@@ -802,15 +816,27 @@ impl LazyMinHeap {
 
     // ---- setting a score
 
-    // Holds the score under the next number and pushes its entry.
-    fn hold(self, words: &mut [u64], key: u64, score: u64) -> Held
-        requires { ⌜ Room (length (now words)) (self .scores .capacity) ⌝ }
+    // The place of a key after `fit_number`: looked for again only where that renumbered, since it else left the words.
+    fn place_after(self, words: &[u64], seq: u64, place: Place, key: u64) -> Place
+        requires { ⌜ ((seq ≡ 2 ^ 64 - 1 → ⊥) → place ≡ placeOf (now words) (self .scores) key) ⌝ }
+        ensures { λ r. ⌜ r ≡ placeOf (now (words .entry)) (self .scores) key ⌝ }
+    {
+        if seq == u64::MAX {
+            return self.scores.seek(words, key);
+        }
+        place
+    }
+
+    // Holds the score at the key's place under the next number, and pushes its entry.
+    fn hold(self, words: &mut [u64], place: Place, key: u64, score: u64) -> Held
+        requires { ⌜ Room (length (now words)) (self .scores .capacity) × (place ≡ placeOf (now words) (self .scores) key) ⌝ }
         ensures { λ r. ⌜ Holding (now (words .entry)) self key score (now (words .exit)) r ⌝ }
     {
         let seq = self.seq;
-        let stored = store(
+        let stored = store_at(
             self.scores,
             words,
+            place,
             Record {
                 key,
                 first: score,
@@ -849,26 +875,12 @@ impl LazyMinHeap {
         }
     }
 
-    // A new key, with as many held as the limit allows.
-    fn is_full(self, words: &[u64], key: u64) -> bool
-        ensures { λ r. ⌜ Filling (now (words .entry)) self key r ⌝ }
-    {
-        let scores = self.scores;
-        if scores.len < scores.capacity {
-            return false;
-        }
-        match scores.find(words, key) {
-            Slot::At(_) => false,
-            Slot::Nothing => true,
-            Slot::Refused => true,
-        }
-    }
-
     fn update_within(self, words: &mut [u64], key: u64, score: u64) -> Updated
         requires { ⌜ Room (length (now words)) (self .scores .capacity) ⌝ }
         ensures { λ r. ⌜ Updating (now (words .entry)) self key score (now (words .exit)) r ⌝ }
     {
-        if self.is_full(words, key) {
+        let place = self.scores.seek(words, key);
+        if is_over(place, self.scores.len, self.scores.capacity) {
             return Updated {
                 heap: self,
                 answer: Score::Refused(Refusal::KeyLimitReached),
@@ -877,7 +889,8 @@ impl LazyMinHeap {
         }
         let fit = self.fit_number(words);
         let ready = fit.heap;
-        let held = ready.hold(words, key, score);
+        let at = ready.place_after(words, self.seq, place, key);
+        let held = ready.hold(words, at, key, score);
         let pushed = held.heap;
         let answer = held.answer;
         let trimmed = pushed.fit_entries(words, self.factor);

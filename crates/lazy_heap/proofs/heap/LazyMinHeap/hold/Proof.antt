@@ -11,4 +11,4 @@ hold-spec =
     (λ c κs. search needs)
     (λ c κs. search needs)
     (λ c. search needs)
-    (λ c. let o = c .before .before .before .before .before .before .before .store .ensures in holding _ (o .putting) (rw (c .before .before .before .before .number-after .ensures, stored-scores o) at (c .before .before .push .ensures)) (o .answer)))
+    (λ c. let o = c .before .before .before .before .before .before .before .store-at .ensures in holding _ (o .putting) (rw (c .before .before .before .before .number-after .ensures, stored-scores o) at (c .before .before .push .ensures)) (o .answer)))
