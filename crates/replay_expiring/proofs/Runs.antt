@@ -27,8 +27,7 @@ use Rattle.expiring.proofs.Runs.{ReadsAs}
 use Rattle.replay.specs.declared.answer.Answer as replay
 use Rattle.replay.specs.Answers.{words}
 use Rattle.replay.specs.Runs.{withAnswer}
-use Rattle.replay_expiring.specs.declared.call.Asked.{Asked}
-use Rattle.replay_expiring.specs.Words.{changing, askedAt, callOf, callIn, ofAnswer}
+use Rattle.replay_expiring.specs.Words.{Asked, changing, askedAt, callOf, callIn, ofAnswer}
 use Rattle.replay_expiring.specs.Numbers.{bookIn}
 use Rattle.replay_expiring.specs.Runs.{ofReply, Turn, changed, looked, Run, none, more, Replayed, Fits, defaultBy, outcomeBy, Opens, callsIn, toldIn, discardedIn, wordsOf, AsThePlainBook}
 use Rattle.replay_expiring.proofs.Laws.{changed-stored, changed-past, changed-size}

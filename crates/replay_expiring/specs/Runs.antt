@@ -15,9 +15,8 @@ use Rattle.expiring_model.specs.Lists.{Calls, answersOf, bookAtEnd}
 use Rattle.replay.specs.declared.answer.Answer as replay
 use Rattle.replay.specs.Answers.{words}
 use Rattle.replay.specs.Runs.{withAnswer}
-use Rattle.replay_expiring.specs.declared.call.Asked.{Asked}
 use Rattle.replay_expiring.specs.Numbers.{bookIn, withChanged}
-use Rattle.replay_expiring.specs.Words.{operations, changing, askedAt, callIn, defaultOf, ofAnswer, ofOutcome}
+use Rattle.replay_expiring.specs.Words.{Asked, operations, changing, askedAt, callIn, defaultOf, ofAnswer, ofOutcome}
 
 -- ---- a list of calls
 -- how many calls there are with room for an answer

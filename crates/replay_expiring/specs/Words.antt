@@ -1,9 +1,10 @@
 -- Calls, openings and answers in words.
 use mathlib.Core.Bool.{cond}
 use mathlib.Core.List.{List}
-use Prim.Native.Nat.{ℕ, _+_, _*_}
+use Prim.Native.Nat.{ℕ, _+_, _*_, _≤_}
 use lib.Dec.{eqb}
-use lib.ListN.{getD}
+use lib.ListN.{length, getD}
+use Rattle.time.specs.declared.tick.Tick.{Tick}
 use Rattle.time.specs.declared.duration.Duration.{Duration}
 use Rattle.time.specs.Duration.{durationOf}
 use Rattle.time.specs.declared.refusal.Outcome.{Outcome}
@@ -16,9 +17,16 @@ use Rattle.expiring_model.specs.declared.lifetimes.DefaultDuration.the-variants
 use Rattle.expiring_model.specs.Model.{Call, insert, insertWithTtl, get, remove, clear, setTtl, purgeExpired, nextDeadline, touch, popLru, contains, peek, ttlStatus, recencyRank, liveLen, expirations, peekLru}
 use Rattle.replay.specs.declared.answer.Answer as replay
 use Rattle.replay.specs.Answers.{words, nothing, number, pair, done, refused}
-use Rattle.replay_expiring.specs.declared.call.Asked.{Asked}
 
--- ---- a call: operation, tick, key, value, seconds, nanoseconds
+-- ---- a call: operation, tick, key, value, seconds, nanoseconds. It may be that there is no such operation.
+pub record Asked : Type 0 where
+  pub operation : ℕ
+  pub tick : Tick
+  pub key : ℕ
+  pub value : ℕ
+  pub ttl : Duration
+
+-- the i-th call, counted from 0
 abbrev pub askedAt : List ℕ → ℕ → Asked
 askedAt cs i = record {
   operation = getD cs (6 * i) 0;
@@ -27,6 +35,12 @@ askedAt cs i = record {
   value = getD cs (6 * i + 3) 0;
   ttl = durationOf (getD cs (6 * i + 4) 0) (getD cs (6 * i + 5) 0);
 }
+
+-- the book's numbers, the i-th call's words and room for its answer
+pub record Room (ns cs out : List ℕ) (i : ℕ) : Type 0 where
+  pub numbers : 12 ≤ length ns
+  pub call : 6 * i + 6 ≤ length cs
+  pub answer : 4 * i + 4 ≤ length out
 
 -- how many operations there are
 abbrev pub operations : ℕ

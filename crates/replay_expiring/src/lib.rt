@@ -37,9 +37,11 @@
 // public, for functions of a single call.
 mod answer;
 mod book;
-mod call;
+mod change;
 mod list;
+mod look;
 mod numbers;
+mod tell;
 
 pub use answer::of_answer;
 pub use book::expiring_check;
