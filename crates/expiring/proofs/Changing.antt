@@ -19,19 +19,20 @@ use Rattle.expiration_index.specs.declared.answers.Deadline.{Deadline}
 use Rattle.expiration_index.specs.Calls as calls
 use Rattle.expiring_model.specs.declared.answers.Answer.{Answer}
 use Rattle.expiring_model.specs.declared.answers.Answer.the-variants as answers
+use Rattle.expiring.specs.declared.answers.Reply.{Reply}
 use Rattle.expiring.specs.declared.expiring.Expiring.{Expiring}
 use Rattle.expiring_model.specs.declared.lifetimes.DefaultTtl.{DefaultTtl}
 use Rattle.expiring_model.specs.Model.{Call, Change, drop}
 use Rattle.expiring.specs.Book.{limitsOf, capacityOf, limitOf, IsBook}
 use Rattle.expiring.specs.Calls.{Following}
-use Rattle.expiring.specs.Numbers.{lruIn, indexIn, bookIn, withLru, withDeadlines, withExpiration}
+use Rattle.expiring.specs.Numbers.{lruIn, indexIn, bookIn, withLru, withDeadlines, withExpiration, withBook}
 use Rattle.expiring.specs.Steps.{ofFound, comeBy, withList, withIndex, storedOf, DeadlineOf, Moved, same, beyond, expiredIn, valueOf, unless, Acting, concluding, Inserting, replying}
 use Rattle.expiring.specs.Changes.{Ready, replyIn, Setting, Dropping, Putting, Taking, Concluding}
 use Rattle.expiring.proofs.Moving.{lent, back, index-kept, moved-drop, moved-later}
 use Rattle.expiring.proofs.Limits.{limits-room}
 use Rattle.expiring.proofs.Calling.{inserting, removing}
 use Rattle.expiring.proofs.Valuing.{refused-how, dating, set-held, removed-held, dropping}
-use Rattle.expiring.proofs.Storing.{lru-stored, deadlines-stored, expiration-stored, stay-same, stay-lru, stay-deadlines, stay-expiration}
+use Rattle.expiring.proofs.Storing.{lru-stored, deadlines-stored, book-stored, expiration-stored, stay-same, stay-lru, stay-deadlines, stay-expiration}
 
 -- ---- the index's numbers, and then its part of the words
 module _ {ns ws : List ℕ} (ready : Ready ns (length ws)) (k : ℕ) {ys : List ℕ} {r : Changed} where
@@ -124,3 +125,7 @@ ready-in ns h l = record { numbers = h; room = limits-room _ _ _ l }
 module _ {ws ws′ : List ℕ} {b : Expiring} {t : Tick} {c : Call} {a : Answer} {d : ℕ} where
   pub told-in : (ns : List ℕ) {b′ : Expiring} → b′ ≡ bookIn ns → Following ws b t c ws′ (record { book = b′; answer = a; discarded = d }) → Following ws b t c ws′ (replyIn ns (record { answer = a; discarded = d }))
   told-in ns e o = subst (λ b′. Following ws b t c ws′ (record { book = b′; answer = a; discarded = d })) e o
+
+-- a call on the numbers of a book
+pub told-of : (ns ns₁ : List ℕ) {ws ws′ : List ℕ} {b : Expiring} {t : Tick} {c : Call} {r : Reply} → 12 ≤ length ns → ns₁ ≡ withBook ns b → Following ws (bookIn ns₁) t c ws′ r → Following ws b t c ws′ r
+told-of ns ns₁ {ws} {ws′} {b} {t} {c} {r} h e o = subst (λ b. Following ws b t c ws′ r) (ap bookIn e ∙ book-stored ns b h) o

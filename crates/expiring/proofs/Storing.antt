@@ -2,13 +2,16 @@
 use mathlib.Core.Path.{_≡_, refl, sym, _∙_}
 use mathlib.Core.Logic.{_≢_}
 use mathlib.Core.List.{List, [], _∷_}
-use Prim.Native.Nat.{ℕ, _≤_}
+use Prim.Native.Nat.{ℕ, suc, _≤_}
 use native.Mathlib.Omega.{arith}
 use lib.ListN.{length, getD, length-set}
 use lib.Seq.{getD-set-other}
 use Rattle.fast_lru.specs.declared.lru.FastLru.{FastLru}
 use Rattle.expiration_index.specs.declared.index.ExpirationIndex.{ExpirationIndex}
-use Rattle.expiring.specs.Numbers.{bookIn, withLru, withDeadlines, withExpiration}
+use Rattle.expiring_model.specs.declared.lifetimes.DefaultTtl.{DefaultTtl}
+use Rattle.expiring_model.specs.declared.lifetimes.DefaultTtl.the-variants as default
+use Rattle.expiring.specs.declared.expiring.Expiring.{Expiring}
+use Rattle.expiring.specs.Numbers.{defaultIn, bookIn, givenOf, ticksOf, withLru, withDeadlines, withExpiration, withChanged, withBook}
 use Rattle.expiring.specs.Changes.{Stay}
 use Rattle.expiring.specs.Steps.{withList, withIndex, withExpired}
 
@@ -53,6 +56,17 @@ expiration-stored ns h = go (as-twelve ns h)
     go : {ns : List ℕ} → Twelve ns → bookIn (withExpiration ns) ≡ withExpired (bookIn ns) 1
     go (twelve ns) = refl
 
+default-stored : (l : DefaultTtl) → defaultIn (givenOf l) (ticksOf l) ≡ l
+default-stored default.Nothing = refl
+default-stored (default.Of l) = refl
+
+pub book-stored : (ns : List ℕ) (b : Expiring) → 12 ≤ length ns → bookIn (withBook ns b) ≡ b
+unfolding withBook withChanged withLru withDeadlines
+book-stored ns b h = go (as-twelve ns h)
+  where
+    go : {ns : List ℕ} → Twelve ns → bookIn (withBook ns b) ≡ b
+    go (twelve ns) = rw (default-stored (b .«default_ttl»)) refl
+
 -- ---- and no others change
 pub stay-same : (ns : List ℕ) → Stay ns ns
 stay-same ns = record { size = refl; others = λ j a b c d e f g h. refl }
@@ -71,3 +85,23 @@ stay-deadlines ns x = record { size = simp length-set; others = λ j a b c d e f
 pub stay-expiration : (ns : List ℕ) → Stay ns (withExpiration ns)
 unfolding withExpiration
 stay-expiration ns = record { size = simp length-set; others = λ j a b c d e f g h. simp getD-set-other }
+
+-- ---- numbers of which the others stay are those that were, with the ones that may change
+same-list : (xs ys : List ℕ) → length xs ≡ length ys → ((j : ℕ) → getD xs j 0 ≡ getD ys j 0) → xs ≡ ys
+same-list [] [] n h = refl
+same-list [] (y ∷ ys) n h = absurd (omega arith)
+same-list (x ∷ xs) [] n h = absurd (omega arith)
+same-list (x ∷ xs) (y ∷ ys) n h = let tail = same-list xs ys (omega arith) (λ j. h (suc j)) in rw (h 0, tail) refl
+
+pub stay-changed : (ns ns′ : List ℕ) → 12 ≤ length ns → Stay ns ns′ → ns′ ≡ withChanged ns (bookIn ns′)
+unfolding withChanged withLru withDeadlines
+stay-changed ns ns′ h s = go (as-twelve ns h) (as-twelve ns′ (omega (arith, s .size))) s
+  where
+    go : {ns ns′ : List ℕ} → Twelve ns → Twelve ns′ → Stay ns ns′ → ns′ ≡ withChanged ns (bookIn ns′)
+    go (twelve t) (twelve t′) s =
+        let stays : (j : ℕ) → getD t′ j 0 ≡ getD t j 0 = λ j. s .others (suc (suc (suc (suc (suc (suc (suc (suc (suc (suc (suc (suc j)))))))))))) (λ e. omega arith) (λ e. omega arith) (λ e. omega arith) (λ e. omega arith) (λ e. omega arith) (λ e. omega arith) (λ e. omega arith) (λ e. omega arith) in
+        rw (s .others 0 (λ e. omega arith) (λ e. omega arith) (λ e. omega arith) (λ e. omega arith) (λ e. omega arith) (λ e. omega arith) (λ e. omega arith) (λ e. omega arith), s .others 3 (λ e. omega arith) (λ e. omega arith) (λ e. omega arith) (λ e. omega arith) (λ e. omega arith) (λ e. omega arith) (λ e. omega arith) (λ e. omega arith), s .others 9 (λ e. omega arith) (λ e. omega arith) (λ e. omega arith) (λ e. omega arith) (λ e. omega arith) (λ e. omega arith) (λ e. omega arith) (λ e. omega arith), s .others 10 (λ e. omega arith) (λ e. omega arith) (λ e. omega arith) (λ e. omega arith) (λ e. omega arith) (λ e. omega arith) (λ e. omega arith) (λ e. omega arith), same-list t′ t (omega (arith, s .size)) stays) refl
+
+pub changed-size : (ns : List ℕ) (b : Expiring) → length (withChanged ns b) ≡ length ns
+unfolding withChanged withLru withDeadlines
+changed-size ns b = simp length-set

@@ -43,3 +43,11 @@ withDeadlines ns x = set (set (set (set (set ns 4 (x .heap .scores .len)) 5 (x .
 -- one expiration more; the count stops at u64::MAX
 unfoldable pub withExpiration : List ℕ → List ℕ
 withExpiration ns = set ns 11 (min (getD ns 11 0 + 1) (2 ^ 64 - 1))
+
+-- all that a call may change
+unfoldable pub withChanged : List ℕ → Expiring → List ℕ
+withChanged ns b = set (withDeadlines (withLru ns (b .inner)) (b .index)) 11 (b .expirations)
+
+-- all of them
+unfoldable pub withBook : List ℕ → Expiring → List ℕ
+withBook ns b = withChanged (set (set (set (set ns 0 (b .inner .map .capacity)) 3 (b .index .heap .scores .capacity)) 9 (givenOf (b .«default_ttl»))) 10 (ticksOf (b .«default_ttl»))) b

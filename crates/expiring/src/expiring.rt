@@ -9,9 +9,11 @@ ghost use Rattle.expiring.specs.Book.{Room, limitsOf, capacityOf, limitO
 ghost use Rattle.expiring.specs.Calls.{noBook, Following, Opening, Checking, DeadlinesHeld, HeapLength, SettingTtl};
 ghost use Rattle.expiring.specs.Steps.{ofFound, ofTold, ofOldest, ofDue, statusOf, isAccepted, comeBy, defaultedBy, saturatingSum, withList, withIndex, withExpired, replying, concluding, purging, DeadlineOf, Expired, Stored, StoredCount, ExpiredCount, Moved, same, Dating, Inserting, PoppingExpired};
 ghost use Rattle.expiring.specs.Steps as steps;
-mod changes;
+
+pub mod changes;
 
 use crate::answers::Reply;
+use crate::numbers;
 use expiration_index::Deadline;
 use expiration_index::Due;
 use expiration_index::ExpirationIndex;
@@ -306,46 +308,29 @@ impl Expiring {
     pub fn get(self, words: &mut [u64], tick: Tick, key: u64) -> Reply
         ensures { λ r. ⌜ Following (now (words .entry)) self tick (get key) (now (words .exit)) r ⌝ }
     {
-        match self.limits(words.len()) {
-            Outcome::Refused(why) => self.refused(why),
-            Outcome::Done => {
-                if self.is_expired(words, tick, key) {
-                    let book = self.drop_both(words, key);
-                    return book.expired(1).answered(Answer::Nothing);
-                }
-                let got = self.inner.get(words, key);
-                let inner = got.lru;
-                let answer = got.answer;
-                self.with_list(inner).answered(of_found(answer))
-            }
-        }
+        let mut numbers = [0u64; 12];
+        numbers::store_book(&mut numbers, self);
+        let said = changes::get(&mut numbers, words, tick, key);
+        changes::reply_in(&numbers, said)
     }
 
     pub fn remove(self, words: &mut [u64], tick: Tick, key: u64) -> Reply
         ensures { λ r. ⌜ Following (now (words .entry)) self tick (remove key) (now (words .exit)) r ⌝ }
     {
-        match self.limits(words.len()) {
-            Outcome::Refused(why) => self.refused(why),
-            Outcome::Done => self.remove_within(words, tick, key),
-        }
+        let mut numbers = [0u64; 12];
+        numbers::store_book(&mut numbers, self);
+        let said = changes::remove(&mut numbers, words, tick, key);
+        changes::reply_in(&numbers, said)
     }
 
     // With the default lifetime, or with none.
     pub fn insert(self, words: &mut [u64], tick: Tick, key: u64, value: u64) -> Reply
         ensures { λ r. ⌜ Following (now (words .entry)) self tick (insert key value) (now (words .exit)) r ⌝ }
     {
-        match self.limits(words.len()) {
-            Outcome::Refused(why) => self.refused(why),
-            Outcome::Done => {
-                let default_ttl = self.default_ttl;
-                match default_ttl {
-                    DefaultTtl::Of(ttl) => {
-                        self.insert_until(words, tick, key, value, tick.deadline_from(ttl))
-                    }
-                    DefaultTtl::Nothing => self.insert_forever(words, tick, key, value),
-                }
-            }
-        }
+        let mut numbers = [0u64; 12];
+        numbers::store_book(&mut numbers, self);
+        let said = changes::insert(&mut numbers, words, tick, key, value);
+        changes::reply_in(&numbers, said)
     }
 
     // Exactly zero removes the key.
@@ -359,18 +344,10 @@ impl Expiring {
     ) -> Reply
         ensures { λ r. ⌜ Following (now (words .entry)) self tick (insertWithTtl key value ttl) (now (words .exit)) r ⌝ }
     {
-        match self.limits(words.len()) {
-            Outcome::Refused(why) => self.refused(why),
-            Outcome::Done => match time::duration_to_ticks(ttl) {
-                Ticked::Refused(why) => self.refused(why),
-                Ticked::Ticks(ticks) => {
-                    if ttl.is_zero() {
-                        return self.remove_within(words, tick, key);
-                    }
-                    self.insert_until(words, tick, key, value, tick.deadline_from(ticks))
-                }
-            },
-        }
+        let mut numbers = [0u64; 12];
+        numbers::store_book(&mut numbers, self);
+        let said = changes::insert_with_ttl(&mut numbers, words, tick, key, value, ttl);
+        changes::reply_in(&numbers, said)
     }
 
     pub fn clear(self, words: &mut [u64], _tick: Tick) -> Reply
@@ -413,13 +390,10 @@ impl Expiring {
     pub fn set_ttl(self, words: &mut [u64], tick: Tick, key: u64, ttl: Duration) -> Reply
         ensures { λ r. ⌜ Following (now (words .entry)) self tick (setTtl key ttl) (now (words .exit)) r ⌝ }
     {
-        match self.limits(words.len()) {
-            Outcome::Refused(why) => self.refused(why),
-            Outcome::Done => match time::duration_to_ticks(ttl) {
-                Ticked::Refused(why) => self.refused(why),
-                Ticked::Ticks(ticks) => self.set_ttl_within(words, tick, key, ticks),
-            },
-        }
+        let mut numbers = [0u64; 12];
+        numbers::store_book(&mut numbers, self);
+        let said = changes::set_ttl(&mut numbers, words, tick, key, ttl);
+        changes::reply_in(&numbers, said)
     }
 
     // Drops every expired pair and its value.
@@ -703,31 +677,6 @@ impl Expiring {
 
     // ---- steps on the deadlines
 
-    fn set_deadline(self, words: &mut [u64], key: u64, deadline: Tick) -> Dated
-        requires { ⌜ Room (length (now words)) (capacityOf self) (limitOf self) ⌝ }
-        ensures { λ r. ⌜ Dating (now (words .entry)) self key deadline (now (words .exit)) r ⌝ }
-    {
-        let start = 64 + 8 * self.inner.map.capacity;
-        let changed = self.index.set_deadline(&mut words[start..], key, deadline);
-        let index = changed.index;
-        let answer = changed.answer;
-        Dated {
-            book: self.with_index(index),
-            is_set: is_accepted(answer),
-            discarded: changed.discarded,
-        }
-    }
-
-    fn drop_deadline(self, words: &mut [u64], key: u64) -> Expiring
-        requires { ⌜ Room (length (now words)) (capacityOf self) (limitOf self) ⌝ }
-        ensures { λ r. ⌜ Moved (now (words .entry)) self (drop key) same (now (words .exit)) r 0 ⌝ }
-    {
-        let start = 64 + 8 * self.inner.map.capacity;
-        let changed = self.index.remove(&mut words[start..], key);
-        let index = changed.index;
-        self.with_index(index)
-    }
-
     fn drop_all_deadlines(self, words: &mut [u64]) -> Dated
         requires { ⌜ Room (length (now words)) (capacityOf self) (limitOf self) ⌝ }
         ensures { λ r. ⌜ Moved (now (words .entry)) self dropAll same (now (words .exit)) (r .book) (r .discarded) ⌝ }
@@ -740,18 +689,6 @@ impl Expiring {
             is_set: true,
             discarded: cleared.discarded,
         }
-    }
-
-    // ---- steps on the values and the deadlines
-
-    // The value first, as the source has it.
-    fn drop_both(self, words: &mut [u64], key: u64) -> Expiring
-        requires { ⌜ Room (length (now words)) (capacityOf self) (limitOf self) ⌝ }
-        ensures { λ r. ⌜ Moved (now (words .entry)) self (drop key) (without key) (now (words .exit)) r 0 ⌝ }
-    {
-        let removed = self.inner.remove(words, key);
-        let inner = removed.lru;
-        self.with_list(inner).drop_deadline(words, key)
     }
 
     // ---- the larger calls, on words and numbers within their limits
@@ -768,109 +705,6 @@ impl Expiring {
             book: self.with_index(index),
             answer: of_due(answer),
             discarded: looked.discarded,
-        }
-    }
-
-    fn remove_within(self, words: &mut [u64], tick: Tick, key: u64) -> Reply
-        requires { ⌜ Room (length (now words)) (capacityOf self) (limitOf self) ⌝ }
-        ensures { λ r. ⌜ steps.Removing (now (words .entry)) self tick key (now (words .exit)) r ⌝ }
-    {
-        let start = 64 + 8 * self.inner.map.capacity;
-        let changed = self.index.remove(&mut words[start..], key);
-        let old = changed.answer;
-        let index = changed.index;
-        let removed = self.inner.remove(words, key);
-        let inner = removed.lru;
-        let found = removed.answer;
-        self.with_index(index)
-            .with_list(inner)
-            .concluded(found, old, tick, 0)
-    }
-
-    fn insert_until(
-        self,
-        words: &mut [u64],
-        tick: Tick,
-        key: u64,
-        value: u64,
-        deadline: Tick,
-    ) -> Reply
-        requires { ⌜ Room (length (now words)) (capacityOf self) (limitOf self) ⌝ }
-        ensures { λ r. ⌜ Inserting (now (words .entry)) self tick key value (set key deadline) (now (words .exit)) r ⌝ }
-    {
-        let start = 64 + 8 * self.inner.map.capacity;
-        let changed = self.index.set_deadline(&mut words[start..], key, deadline);
-        let old = changed.answer;
-        if !is_accepted(old) {
-            return self.refused(Refusal::KeyLimitReached);
-        }
-        let index = changed.index;
-        let put = self.inner.insert(words, key, value);
-        let inner = put.lru;
-        let found = put.answer;
-        self.with_index(index)
-            .with_list(inner)
-            .concluded(found, old, tick, changed.discarded)
-    }
-
-    fn insert_forever(self, words: &mut [u64], tick: Tick, key: u64, value: u64) -> Reply
-        requires { ⌜ Room (length (now words)) (capacityOf self) (limitOf self) ⌝ }
-        ensures { λ r. ⌜ Inserting (now (words .entry)) self tick key value (drop key) (now (words .exit)) r ⌝ }
-    {
-        let start = 64 + 8 * self.inner.map.capacity;
-        let changed = self.index.remove(&mut words[start..], key);
-        let old = changed.answer;
-        let index = changed.index;
-        let put = self.inner.insert(words, key, value);
-        let inner = put.lru;
-        let found = put.answer;
-        self.with_index(index)
-            .with_list(inner)
-            .concluded(found, old, tick, 0)
-    }
-
-    // The answer is what the list found of the key, unless its old deadline had come.
-    fn concluded(self, found: Found, old: Deadline, tick: Tick, discarded: usize) -> Reply
-        ensures { λ r. ⌜ r ≡ concluding self found old tick discarded ⌝ }
-    {
-        if has_come(old, tick) {
-            return Reply {
-                book: self.expired(1),
-                answer: Answer::Nothing,
-                discarded,
-            };
-        }
-        Reply {
-            book: self,
-            answer: of_found(found),
-            discarded,
-        }
-    }
-
-    fn set_ttl_within(self, words: &mut [u64], tick: Tick, key: u64, ticks: TtlTicks) -> Reply
-        requires { ⌜ Room (length (now words)) (capacityOf self) (limitOf self) ⌝ }
-        ensures { λ r. ⌜ SettingTtl (now (words .entry)) self tick key ticks (now (words .exit)) r ⌝ }
-    {
-        if !self.is_stored(words, key) {
-            return self.answered(Answer::No);
-        }
-        if self.is_expired(words, tick, key) {
-            let book = self.drop_both(words, key);
-            return book.expired(1).answered(Answer::No);
-        }
-        if ticks.0 == 0 {
-            let book = self.drop_both(words, key);
-            return book.answered(Answer::No);
-        }
-        let dated = self.set_deadline(words, key, tick.deadline_from(ticks));
-        if !dated.is_set {
-            return self.refused(Refusal::KeyLimitReached);
-        }
-        let book = dated.book;
-        Reply {
-            book,
-            answer: Answer::Yes,
-            discarded: dated.discarded,
         }
     }
 

@@ -3,7 +3,7 @@
 ghost use mathlib.Core.Path.{_≡_};
 ghost use Prim.Native.Nat.{_≤_};
 ghost use lib.ListN.{length};
-ghost use Rattle.expiring.specs.Numbers.{lruIn, indexIn, defaultIn, bookIn, withLru, withDeadlines};
+ghost use Rattle.expiring.specs.Numbers.{lruIn, indexIn, defaultIn, bookIn, givenOf, ticksOf, withLru, withDeadlines, withChanged, withBook};
 use crate::expiring::Expiring;
 use expiration_index::ExpirationIndex;
 use expiring_model::DefaultTtl;
@@ -67,6 +67,24 @@ pub fn book_in(numbers: &[u64]) -> Expiring
     }
 }
 
+fn given_of(default_ttl: DefaultTtl) -> u64
+    ensures { λ r. ⌜ r ≡ givenOf «default_ttl» ⌝ }
+{
+    match default_ttl {
+        DefaultTtl::Nothing => 0,
+        DefaultTtl::Of(_) => 1,
+    }
+}
+
+fn ticks_of(default_ttl: DefaultTtl) -> u64
+    ensures { λ r. ⌜ r ≡ ticksOf «default_ttl» ⌝ }
+{
+    match default_ttl {
+        DefaultTtl::Nothing => 0,
+        DefaultTtl::Of(ttl) => ttl.0,
+    }
+}
+
 // The numbers of the list that a call may change.
 pub fn store_list(numbers: &mut [u64], inner: FastLru)
     requires { ⌜ 12 ≤ length (now numbers) ⌝ }
@@ -89,4 +107,28 @@ pub fn store_index(numbers: &mut [u64], index: ExpirationIndex)
     numbers[6] = heap.entries as u64;
     numbers[7] = heap.seq;
     numbers[8] = heap.factor as u64;
+}
+
+// All that a call may change: neither the limits nor the default lifetime. A number that is stored makes the next call wait for it.
+pub fn store_changed(numbers: &mut [u64], book: Expiring)
+    requires { ⌜ 12 ≤ length (now numbers) ⌝ }
+    ensures { λ _. ⌜ now (numbers .exit) ≡ withChanged (now (numbers .entry)) book ⌝ }
+{
+    let inner = book.inner;
+    let index = book.index;
+    store_list(numbers, inner);
+    store_index(numbers, index);
+    numbers[11] = book.expirations;
+}
+
+pub fn store_book(numbers: &mut [u64], book: Expiring)
+    requires { ⌜ 12 ≤ length (now numbers) ⌝ }
+    ensures { λ _. ⌜ now (numbers .exit) ≡ withBook (now (numbers .entry)) book ⌝ }
+{
+    let default_ttl = book.default_ttl;
+    numbers[0] = book.inner.map.capacity as u64;
+    numbers[3] = book.index.heap.scores.capacity as u64;
+    numbers[9] = given_of(default_ttl);
+    numbers[10] = ticks_of(default_ttl);
+    store_changed(numbers, book);
 }

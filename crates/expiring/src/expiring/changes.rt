@@ -9,6 +9,7 @@ ghost use Rattle.expiring.specs.Numbers.{bookIn, withExpiration};
 ghost use Rattle.expiring.specs.Calls.{SettingTtl};
 ghost use Rattle.expiring.specs.Changes.{Ready, Stay, replyIn, Setting, Dropping, Putting, Taking, Concluding, Changing};
 ghost use Rattle.expiring.specs.Steps.{Moved, Inserting, Removing};
+use crate::answers::Reply;
 use crate::expiring::has_come;
 use crate::expiring::is_accepted;
 use crate::expiring::of_found;
@@ -35,6 +36,20 @@ pub struct Said {
 struct Redated {
     old: Deadline,
     discarded: usize,
+}
+
+// What a call on the book's own struct replies.
+pub fn reply_in(numbers: &[u64], said: Said) -> Reply
+    requires { ⌜ 12 ≤ length (now numbers) ⌝ }
+    ensures { λ r. ⌜ r ≡ replyIn (now (numbers .entry)) said ⌝ }
+{
+    let book = numbers::book_in(numbers);
+    let answer = said.answer;
+    Reply {
+        book,
+        answer,
+        discarded: said.discarded,
+    }
 }
 
 fn answering(answer: Answer) -> Said
@@ -157,13 +172,7 @@ fn insert_until(
     }
 }
 
-fn insert_forever(
-    numbers: &mut [u64],
-    words: &mut [u64],
-    tick: Tick,
-    key: u64,
-    value: u64,
-) -> Said
+fn insert_forever(numbers: &mut [u64], words: &mut [u64], tick: Tick, key: u64, value: u64) -> Said
     requires { ⌜ Ready (now numbers) (length (now words)) ⌝ }
     ensures { λ r. ⌜ Stay (now (numbers .entry)) (now (numbers .exit)) × Inserting (now (words .entry)) (bookIn (now (numbers .entry))) tick key value (drop key) (now (words .exit)) (replyIn (now (numbers .exit)) r) ⌝ }
 {

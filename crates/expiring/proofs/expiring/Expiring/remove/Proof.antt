@@ -1,8 +1,6 @@
-use mathlib.Core.Path.{sym, _∙_}
 use native.Mathlib.Omega.{arith}
-use Rattle.expiring.proofs.Acting.{follow-limits}
-use Rattle.expiring.proofs.Limits.{limits-room}
-use Rattle.expiring.proofs.Following.{follow-remove}
+-- The numbers that were stored tell the book itself.
+use Rattle.expiring.proofs.Changing.{told-of}
 use borrow.Author.Needs.{needs}
 use Rattle.expiring.proofs.expiring.Expiring.remove.Statement.{statement}
 use Rattle.expiring.proofs.expiring.Expiring.remove.Tie as tie
@@ -11,11 +9,11 @@ pub remove-spec : {M : Type 1} → statement M
 remove-spec =
     tie.close
     (tie.spec
+    (λ c. search needs)
+    (λ c κs. search needs)
+    (λ c. search needs)
     (λ c κs. search needs)
     (λ c. search needs)
     (λ c κs. search needs)
     (λ c. search needs)
-    (λ c κs. let e = c .before in limits-room _ _ _ (sym (e .before .before .limits .ensures) ∙ e .enum-told .given .1))
-    (λ c. rw (c .refused .ensures) (follow-limits _ _ _ _ (sym (c .before .before .before .before .limits .ensures) ∙ c .before .before .why .given .1)))
-    (λ c. search needs)
-    (λ c. let r = c .before .before in let e = r .before .before in let s = e .before .before .before .before in let l = sym (e .before .before .limits .ensures) ∙ e .enum-told .given .1 in follow-remove _ _ _ l (omega (arith, s .good)) (r .remove-within .ensures)))
+    (λ c. let r = c .before .before .before .before .before in let s = r .before .before .before .before in rw (c .reply-in .ensures) (told-of _ (s .store-book .last .0) (omega arith) (s .store-book .ensures) (r .remove .ensures .call))))
