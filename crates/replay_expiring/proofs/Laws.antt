@@ -1,6 +1,6 @@
 -- The numbers that are stored are read back, and no other changes. What no call changes need not be stored for that.
 use mathlib.Core.Path.{_≡_, refl, sym, ap, _∙_}
-use mathlib.Core.List.{List, [], _∷_}
+use mathlib.Core.List.{List}
 use mathlib.Core.Logic.{_≢_}
 use Prim.Native.Nat.{ℕ, _≤_}
 use native.Mathlib.Omega.{arith}
@@ -13,33 +13,12 @@ use Rattle.expiring.specs.declared.answers.Reply.{Reply}
 use Rattle.expiring.specs.declared.expiring.Expiring.{Expiring}
 use Rattle.expiring.specs.Book.{capacityOf, limitOf, IsBook, modelOf}
 use Rattle.expiring.specs.Calls.{Following}
-use Rattle.expiring_model.specs.declared.lifetimes.DefaultTtl.{DefaultTtl}
-use Rattle.expiring_model.specs.declared.lifetimes.DefaultTtl.the-variants as default
 use Rattle.expiring_model.specs.Model.{Book, Call, refusalOf, accepted, bookAfter}
-use Rattle.replay_expiring.specs.Numbers.{defaultIn, bookIn, givenOf, ticksOf, withBook, withChanged}
-
-default-stored : (l : DefaultTtl) → defaultIn (givenOf l) (ticksOf l) ≡ l
-default-stored default.Nothing = refl
-default-stored (default.Of l) = refl
-
-pub book-stored : (ns : List ℕ) (b : Expiring) → 12 ≤ length ns → bookIn (withBook ns b) ≡ b
-unfolding withBook
-book-stored [] b h = absurd (omega arith)
-book-stored (_ ∷ []) b h = absurd (omega arith)
-book-stored (_ ∷ _ ∷ []) b h = absurd (omega arith)
-book-stored (_ ∷ _ ∷ _ ∷ []) b h = absurd (omega arith)
-book-stored (_ ∷ _ ∷ _ ∷ _ ∷ []) b h = absurd (omega arith)
-book-stored (_ ∷ _ ∷ _ ∷ _ ∷ _ ∷ []) b h = absurd (omega arith)
-book-stored (_ ∷ _ ∷ _ ∷ _ ∷ _ ∷ _ ∷ []) b h = absurd (omega arith)
-book-stored (_ ∷ _ ∷ _ ∷ _ ∷ _ ∷ _ ∷ _ ∷ []) b h = absurd (omega arith)
-book-stored (_ ∷ _ ∷ _ ∷ _ ∷ _ ∷ _ ∷ _ ∷ _ ∷ []) b h = absurd (omega arith)
-book-stored (_ ∷ _ ∷ _ ∷ _ ∷ _ ∷ _ ∷ _ ∷ _ ∷ _ ∷ []) b h = absurd (omega arith)
-book-stored (_ ∷ _ ∷ _ ∷ _ ∷ _ ∷ _ ∷ _ ∷ _ ∷ _ ∷ _ ∷ []) b h = absurd (omega arith)
-book-stored (_ ∷ _ ∷ _ ∷ _ ∷ _ ∷ _ ∷ _ ∷ _ ∷ _ ∷ _ ∷ _ ∷ []) b h = absurd (omega arith)
-book-stored (_ ∷ _ ∷ _ ∷ _ ∷ _ ∷ _ ∷ _ ∷ _ ∷ _ ∷ _ ∷ _ ∷ _ ∷ ns) b h = rw (default-stored (b .«default_ttl»)) refl
+use Rattle.expiring.specs.Numbers.{bookIn, withLru, withDeadlines, withBook, withChanged}
+use Rattle.expiring.proofs.Storing.{Twelve, twelve, as-twelve}
 
 pub book-past : (ns : List ℕ) (b : Expiring) (j : ℕ) → 12 ≤ j → getD (withBook ns b) j 0 ≡ getD ns j 0
-unfolding withBook
+unfolding withBook withChanged withLru withDeadlines
 book-past ns b j h =
     let a0 : j ≢ 0 = omega arith in
     let a1 : j ≢ 1 = omega arith in
@@ -56,7 +35,7 @@ book-past ns b j h =
     simp getD-set-other
 
 pub book-size : (ns : List ℕ) (b : Expiring) → length (withBook ns b) ≡ length ns
-unfolding withBook
+unfolding withBook withChanged withLru withDeadlines
 book-size ns b = simp length-set
 
 -- ---- what no call changes
@@ -77,7 +56,6 @@ limits-stay t c p = go (refusalOf t c p) refl
 record Fixed (a b : Expiring) : Type 0 where
   capacity : capacityOf a ≡ capacityOf b
   limit : limitOf a ≡ limitOf b
-  factor : a .index .heap .factor ≡ b .index .heap .factor
   lifetime : a .«default_ttl» ≡ b .«default_ttl»
 
 fixed : {ws ws′ : List ℕ} {b : Expiring} {t : Tick} {c : Call} {r : Reply} → IsBook ws b → Following ws b t c ws′ r → Fixed b (r .book)
@@ -88,31 +66,21 @@ fixed {ws = ws} {b = b} {t = t} {c = c} is o =
     record {
       capacity = stay .capacity ∙ ap (λ (p : Book). p .capacity) model;
       limit = stay .limit ∙ ap (λ (p : Book). p .limit) model;
-      factor = is .index .factor ∙ sym (o .book is .index .factor);
       lifetime = stay .lifetime ∙ ap (λ (p : Book). p .lifetime) model;
     }
 
 fixed-stored : (ns : List ℕ) (b : Expiring) → 12 ≤ length ns → Fixed (bookIn ns) b → bookIn (withChanged ns b) ≡ b
-unfolding withChanged
-fixed-stored [] b h f = absurd (omega arith)
-fixed-stored (_ ∷ []) b h f = absurd (omega arith)
-fixed-stored (_ ∷ _ ∷ []) b h f = absurd (omega arith)
-fixed-stored (_ ∷ _ ∷ _ ∷ []) b h f = absurd (omega arith)
-fixed-stored (_ ∷ _ ∷ _ ∷ _ ∷ []) b h f = absurd (omega arith)
-fixed-stored (_ ∷ _ ∷ _ ∷ _ ∷ _ ∷ []) b h f = absurd (omega arith)
-fixed-stored (_ ∷ _ ∷ _ ∷ _ ∷ _ ∷ _ ∷ []) b h f = absurd (omega arith)
-fixed-stored (_ ∷ _ ∷ _ ∷ _ ∷ _ ∷ _ ∷ _ ∷ []) b h f = absurd (omega arith)
-fixed-stored (_ ∷ _ ∷ _ ∷ _ ∷ _ ∷ _ ∷ _ ∷ _ ∷ []) b h f = absurd (omega arith)
-fixed-stored (_ ∷ _ ∷ _ ∷ _ ∷ _ ∷ _ ∷ _ ∷ _ ∷ _ ∷ []) b h f = absurd (omega arith)
-fixed-stored (_ ∷ _ ∷ _ ∷ _ ∷ _ ∷ _ ∷ _ ∷ _ ∷ _ ∷ _ ∷ []) b h f = absurd (omega arith)
-fixed-stored (_ ∷ _ ∷ _ ∷ _ ∷ _ ∷ _ ∷ _ ∷ _ ∷ _ ∷ _ ∷ _ ∷ []) b h f = absurd (omega arith)
-fixed-stored (_ ∷ _ ∷ _ ∷ _ ∷ _ ∷ _ ∷ _ ∷ _ ∷ _ ∷ _ ∷ _ ∷ _ ∷ ns) b h f = rw (f .lifetime, f .capacity, f .limit, f .factor) refl
+unfolding withChanged withLru withDeadlines
+fixed-stored ns b h f = go (as-twelve ns h) f
+  where
+    go : {ns : List ℕ} → Twelve ns → Fixed (bookIn ns) b → bookIn (withChanged ns b) ≡ b
+    go (twelve ns) f = rw (f .lifetime, f .capacity, f .limit) refl
 
 pub changed-stored : (ns : List ℕ) {ws ws′ : List ℕ} {t : Tick} {c : Call} {r : Reply} → 12 ≤ length ns → IsBook ws (bookIn ns) → Following ws (bookIn ns) t c ws′ r → bookIn (withChanged ns (r .book)) ≡ r .book
 changed-stored ns {r = r} h is o = fixed-stored ns (r .book) h (fixed is o)
 
 pub changed-past : (ns : List ℕ) (b : Expiring) (j : ℕ) → 12 ≤ j → getD (withChanged ns b) j 0 ≡ getD ns j 0
-unfolding withChanged
+unfolding withChanged withLru withDeadlines
 changed-past ns b j h =
     let a1 : j ≢ 1 = omega arith in
     let a2 : j ≢ 2 = omega arith in
@@ -120,9 +88,6 @@ changed-past ns b j h =
     let a5 : j ≢ 5 = omega arith in
     let a6 : j ≢ 6 = omega arith in
     let a7 : j ≢ 7 = omega arith in
+    let a8 : j ≢ 8 = omega arith in
     let a11 : j ≢ 11 = omega arith in
     simp getD-set-other
-
-pub changed-size : (ns : List ℕ) (b : Expiring) → length (withChanged ns b) ≡ length ns
-unfolding withChanged
-changed-size ns b = simp length-set

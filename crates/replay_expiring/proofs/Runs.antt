@@ -28,9 +28,10 @@ use Rattle.replay.specs.declared.answer.Answer as replay
 use Rattle.replay.specs.Answers.{words}
 use Rattle.replay.specs.Runs.{withAnswer}
 use Rattle.replay_expiring.specs.Words.{Asked, changing, askedAt, callOf, callIn, ofAnswer}
-use Rattle.replay_expiring.specs.Numbers.{bookIn}
+use Rattle.expiring.specs.Numbers.{bookIn}
 use Rattle.replay_expiring.specs.Runs.{ofReply, Turn, changed, looked, Run, none, more, Replayed, Fits, defaultBy, outcomeBy, Opens, callsIn, toldIn, discardedIn, wordsOf, AsThePlainBook}
-use Rattle.replay_expiring.proofs.Laws.{changed-stored, changed-past, changed-size}
+use Rattle.replay_expiring.proofs.Laws.{changed-stored, changed-past}
+use Rattle.expiring.proofs.Storing.{changed-size}
 use Rattle.replay_expiring.proofs.Steps.{Look, at-contains, at-peek, at-ttl-status, at-recency-rank, at-live-len, at-expirations, at-peek-lru, model-stays, heap-stays, within, Step}
 use Rattle.replay_expiring.proofs.Steps as steps
 

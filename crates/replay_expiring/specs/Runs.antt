@@ -15,7 +15,7 @@ use Rattle.expiring_model.specs.Lists.{Calls, answersOf, bookAtEnd}
 use Rattle.replay.specs.declared.answer.Answer as replay
 use Rattle.replay.specs.Answers.{words}
 use Rattle.replay.specs.Runs.{withAnswer}
-use Rattle.replay_expiring.specs.Numbers.{bookIn, withChanged}
+use Rattle.expiring.specs.Numbers.{bookIn, withChanged}
 use Rattle.replay_expiring.specs.Words.{Asked, operations, changing, askedAt, callIn, defaultOf, ofAnswer, ofOutcome}
 
 -- ---- a list of calls

@@ -3,7 +3,6 @@ ghost use mathlib.Core.Path.{_≡_};
 ghost use Rattle.replay_expiring.specs.Words.{defaultOf};
 ghost use Rattle.replay_expiring.specs.Runs.{Opens, Checked};
 use crate::answer;
-use crate::numbers;
 use expiring::Expiring;
 use expiring_model::DefaultDuration;
 use time::Duration;
@@ -38,7 +37,7 @@ pub extern "C" fn expiring_open(
     );
     let book = opened.book;
     let outcome = opened.outcome;
-    numbers::store_book(numbers, book);
+    expiring::store_book(numbers, book);
     replay::store_answer(answer, 0, answer::of_outcome(outcome));
     1
 }
@@ -60,7 +59,7 @@ pub extern "C" fn expiring_check(numbers: &[u64], words: &[u64]) -> u64
     if numbers.len() < 12 {
         return 0;
     }
-    let book = numbers::book_in(numbers);
+    let book = expiring::book_in(numbers);
     if book.check(words) {
         return 1;
     }

@@ -4,7 +4,6 @@
 ghost use mathlib.Core.Path.{_≡_};
 ghost use Rattle.replay_expiring.specs.Words.{askedAt, Room};
 ghost use Rattle.replay_expiring.specs.Runs.{Turn};
-use crate::numbers;
 use crate::tell;
 use time::Duration;
 use time::Tick;
@@ -16,8 +15,8 @@ pub fn insert(numbers: &mut [u64], words: &mut [u64], calls: &[u64], answers: &m
     let tick = Tick(calls[6 * i + 1]);
     let key = calls[6 * i + 2];
     let value = calls[6 * i + 3];
-    let reply = numbers::book_in(numbers).insert(words, tick, key, value);
-    tell::store_reply(numbers, answers, i, reply);
+    let said = expiring::insert(numbers, words, tick, key, value);
+    tell::store_said(answers, i, said);
 }
 
 pub fn insert_with_ttl(
@@ -34,8 +33,8 @@ pub fn insert_with_ttl(
     let key = calls[6 * i + 2];
     let value = calls[6 * i + 3];
     let ttl = Duration::of(calls[6 * i + 4], calls[6 * i + 5]);
-    let reply = numbers::book_in(numbers).insert_with_ttl(words, tick, key, value, ttl);
-    tell::store_reply(numbers, answers, i, reply);
+    let said = expiring::insert_with_ttl(numbers, words, tick, key, value, ttl);
+    tell::store_said(answers, i, said);
 }
 
 pub fn get(numbers: &mut [u64], words: &mut [u64], calls: &[u64], answers: &mut [u64], i: usize)
@@ -44,8 +43,8 @@ pub fn get(numbers: &mut [u64], words: &mut [u64], calls: &[u64], answers: &mut 
 {
     let tick = Tick(calls[6 * i + 1]);
     let key = calls[6 * i + 2];
-    let reply = numbers::book_in(numbers).get(words, tick, key);
-    tell::store_reply(numbers, answers, i, reply);
+    let said = expiring::get(numbers, words, tick, key);
+    tell::store_said(answers, i, said);
 }
 
 pub fn remove(numbers: &mut [u64], words: &mut [u64], calls: &[u64], answers: &mut [u64], i: usize)
@@ -54,8 +53,8 @@ pub fn remove(numbers: &mut [u64], words: &mut [u64], calls: &[u64], answers: &m
 {
     let tick = Tick(calls[6 * i + 1]);
     let key = calls[6 * i + 2];
-    let reply = numbers::book_in(numbers).remove(words, tick, key);
-    tell::store_reply(numbers, answers, i, reply);
+    let said = expiring::remove(numbers, words, tick, key);
+    tell::store_said(answers, i, said);
 }
 
 pub fn clear(numbers: &mut [u64], words: &mut [u64], calls: &[u64], answers: &mut [u64], i: usize)
@@ -63,7 +62,7 @@ pub fn clear(numbers: &mut [u64], words: &mut [u64], calls: &[u64], answers: &mu
     ensures { λ _. ⌜ Turn (askedAt (now (calls .entry)) i) i (now (numbers .entry)) (now (words .entry)) (now (answers .entry)) (now (numbers .exit)) (now (words .exit)) (now (answers .exit)) ⌝ }
 {
     let tick = Tick(calls[6 * i + 1]);
-    let reply = numbers::book_in(numbers).clear(words, tick);
+    let reply = expiring::book_in(numbers).clear(words, tick);
     tell::store_reply(numbers, answers, i, reply);
 }
 
@@ -74,8 +73,8 @@ pub fn set_ttl(numbers: &mut [u64], words: &mut [u64], calls: &[u64], answers: &
     let tick = Tick(calls[6 * i + 1]);
     let key = calls[6 * i + 2];
     let ttl = Duration::of(calls[6 * i + 4], calls[6 * i + 5]);
-    let reply = numbers::book_in(numbers).set_ttl(words, tick, key, ttl);
-    tell::store_reply(numbers, answers, i, reply);
+    let said = expiring::set_ttl(numbers, words, tick, key, ttl);
+    tell::store_said(answers, i, said);
 }
 
 pub fn purge_expired(
@@ -89,7 +88,7 @@ pub fn purge_expired(
     ensures { λ _. ⌜ Turn (askedAt (now (calls .entry)) i) i (now (numbers .entry)) (now (words .entry)) (now (answers .entry)) (now (numbers .exit)) (now (words .exit)) (now (answers .exit)) ⌝ }
 {
     let tick = Tick(calls[6 * i + 1]);
-    let reply = numbers::book_in(numbers).purge_expired(words, tick);
+    let reply = expiring::book_in(numbers).purge_expired(words, tick);
     tell::store_reply(numbers, answers, i, reply);
 }
 
@@ -104,7 +103,7 @@ pub fn next_deadline(
     ensures { λ _. ⌜ Turn (askedAt (now (calls .entry)) i) i (now (numbers .entry)) (now (words .entry)) (now (answers .entry)) (now (numbers .exit)) (now (words .exit)) (now (answers .exit)) ⌝ }
 {
     let tick = Tick(calls[6 * i + 1]);
-    let reply = numbers::book_in(numbers).next_deadline(words, tick);
+    let reply = expiring::book_in(numbers).next_deadline(words, tick);
     tell::store_reply(numbers, answers, i, reply);
 }
 
@@ -114,7 +113,7 @@ pub fn touch(numbers: &mut [u64], words: &mut [u64], calls: &[u64], answers: &mu
 {
     let tick = Tick(calls[6 * i + 1]);
     let key = calls[6 * i + 2];
-    let reply = numbers::book_in(numbers).touch(words, tick, key);
+    let reply = expiring::book_in(numbers).touch(words, tick, key);
     tell::store_reply(numbers, answers, i, reply);
 }
 
@@ -123,6 +122,6 @@ pub fn pop_lru(numbers: &mut [u64], words: &mut [u64], calls: &[u64], answers: &
     ensures { λ _. ⌜ Turn (askedAt (now (calls .entry)) i) i (now (numbers .entry)) (now (words .entry)) (now (answers .entry)) (now (numbers .exit)) (now (words .exit)) (now (answers .exit)) ⌝ }
 {
     let tick = Tick(calls[6 * i + 1]);
-    let reply = numbers::book_in(numbers).pop_lru(words, tick);
+    let reply = expiring::book_in(numbers).pop_lru(words, tick);
     tell::store_reply(numbers, answers, i, reply);
 }

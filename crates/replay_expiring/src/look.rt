@@ -3,7 +3,6 @@
 ghost use mathlib.Core.Path.{_≡_};
 ghost use Rattle.replay_expiring.specs.Words.{askedAt, Room};
 ghost use Rattle.replay_expiring.specs.Runs.{Turn};
-use crate::numbers;
 use crate::tell;
 use time::Tick;
 
@@ -13,7 +12,7 @@ pub fn contains(numbers: &[u64], words: &[u64], calls: &[u64], answers: &mut [u6
 {
     let tick = Tick(calls[6 * i + 1]);
     let key = calls[6 * i + 2];
-    let reply = numbers::book_in(numbers).contains(words, tick, key);
+    let reply = expiring::book_in(numbers).contains(words, tick, key);
     tell::store_answer(answers, i, reply);
 }
 
@@ -23,7 +22,7 @@ pub fn peek(numbers: &[u64], words: &[u64], calls: &[u64], answers: &mut [u64], 
 {
     let tick = Tick(calls[6 * i + 1]);
     let key = calls[6 * i + 2];
-    let reply = numbers::book_in(numbers).peek(words, tick, key);
+    let reply = expiring::book_in(numbers).peek(words, tick, key);
     tell::store_answer(answers, i, reply);
 }
 
@@ -33,7 +32,7 @@ pub fn ttl_status(numbers: &[u64], words: &[u64], calls: &[u64], answers: &mut [
 {
     let tick = Tick(calls[6 * i + 1]);
     let key = calls[6 * i + 2];
-    let reply = numbers::book_in(numbers).ttl_status(words, tick, key);
+    let reply = expiring::book_in(numbers).ttl_status(words, tick, key);
     tell::store_answer(answers, i, reply);
 }
 
@@ -43,7 +42,7 @@ pub fn recency_rank(numbers: &[u64], words: &[u64], calls: &[u64], answers: &mut
 {
     let tick = Tick(calls[6 * i + 1]);
     let key = calls[6 * i + 2];
-    let reply = numbers::book_in(numbers).recency_rank(words, tick, key);
+    let reply = expiring::book_in(numbers).recency_rank(words, tick, key);
     tell::store_answer(answers, i, reply);
 }
 
@@ -52,7 +51,7 @@ pub fn live_len(numbers: &[u64], words: &[u64], calls: &[u64], answers: &mut [u6
     ensures { λ _. ⌜ Turn (askedAt (now (calls .entry)) i) i (now (numbers .entry)) (now (words .entry)) (now (answers .entry)) (now (numbers .entry)) (now (words .entry)) (now (answers .exit)) ⌝ }
 {
     let tick = Tick(calls[6 * i + 1]);
-    let reply = numbers::book_in(numbers).live_len(words, tick);
+    let reply = expiring::book_in(numbers).live_len(words, tick);
     tell::store_answer(answers, i, reply);
 }
 
@@ -61,7 +60,7 @@ pub fn expirations(numbers: &[u64], words: &[u64], calls: &[u64], answers: &mut 
     ensures { λ _. ⌜ Turn (askedAt (now (calls .entry)) i) i (now (numbers .entry)) (now (words .entry)) (now (answers .entry)) (now (numbers .entry)) (now (words .entry)) (now (answers .exit)) ⌝ }
 {
     let tick = Tick(calls[6 * i + 1]);
-    let reply = numbers::book_in(numbers).expirations(words, tick);
+    let reply = expiring::book_in(numbers).expirations(words, tick);
     tell::store_answer(answers, i, reply);
 }
 
@@ -70,6 +69,6 @@ pub fn peek_lru(numbers: &[u64], words: &[u64], calls: &[u64], answers: &mut [u6
     ensures { λ _. ⌜ Turn (askedAt (now (calls .entry)) i) i (now (numbers .entry)) (now (words .entry)) (now (answers .entry)) (now (numbers .entry)) (now (words .entry)) (now (answers .exit)) ⌝ }
 {
     let tick = Tick(calls[6 * i + 1]);
-    let reply = numbers::book_in(numbers).peek_lru(words, tick);
+    let reply = expiring::book_in(numbers).peek_lru(words, tick);
     tell::store_answer(answers, i, reply);
 }

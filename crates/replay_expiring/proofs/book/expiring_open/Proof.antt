@@ -8,7 +8,8 @@ use Rattle.expiring.specs.declared.expiring.Expiring.{Expiring}
 use Rattle.expiring.specs.declared.expiring.Opened.{Opened}
 use Rattle.expiring_model.specs.declared.lifetimes.DefaultDuration.{DefaultDuration}
 use Rattle.expiring.specs.Calls.{Opening, openingOf}
-use Rattle.replay_expiring.proofs.Laws.{book-stored, book-past, book-size}
+use Rattle.expiring.proofs.Storing.{book-stored}
+use Rattle.replay_expiring.proofs.Laws.{book-past, book-size}
 use borrow.Author.Needs.{needs}
 use Rattle.replay_expiring.proofs.book.expiring_open.Statement.{statement}
 use Rattle.replay_expiring.proofs.book.expiring_open.Tie as tie
