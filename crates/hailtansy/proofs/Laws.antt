@@ -6,12 +6,16 @@ use Prim.Native.Nat.{ℕ, _<_, _≤_}
 use native.Mathlib.Omega.{arith}
 use lib.ListN.{length}
 use Rattle.expiring.specs.declared.answers.Reply.{Reply}
+use Rattle.expiring.specs.declared.expiring.changes.Said.{Said}
 use Rattle.expiring_model.specs.Model.{Call}
 use Rattle.expiring.specs.Calls.{Following}
+use Rattle.expiring.specs.Changes.{replyIn, Changing}
 use Rattle.replay.specs.Runs.{withAnswer}
-use Rattle.replay_expiring.specs.Numbers.{bookIn, withBook}
+use Rattle.expiring.specs.Numbers.{bookIn, withBook}
+use Rattle.replay_expiring.specs.Words.{ofAnswer}
 use Rattle.replay_expiring.specs.Runs.{ofReply}
-use Rattle.replay_expiring.proofs.Laws.{book-stored, book-past, book-size}
+use Rattle.expiring.proofs.Storing.{book-stored}
+use Rattle.replay_expiring.proofs.Laws.{book-past, book-size}
 use Rattle.replay_expiring.proofs.Steps.{Look, model-stays, heap-stays}
 use Rattle.hailtansy.specs.Calls.{Room, tickOf, told, Called, answered, Looked}
 
@@ -41,6 +45,16 @@ module _ {ns ws out : List ℕ} {t : ℕ} {c : Call} where
     size = book-size ns (r .book);
     past = λ j l. book-past ns (r .book) j l;
   })
+
+-- the same, on the numbers themselves
+pub changed : (ns ns′ : List ℕ) {ws ws′ out out′ : List ℕ} {t : ℕ} {c : Call} {s : Said} → 12 ≤ length ns → 4 ≤ length out → Changing ns ws (tickOf t) c ns′ ws′ s → out′ ≡ withAnswer out 0 (ofAnswer (s .answer) (s .discarded)) → Called ns ws t c out ns′ ws′ out′ 1
+changed ns ns′ {s = s} h g o q = rw q (record {
+  few = λ none. absurd (none (record { numbers = h; answer = g }));
+  ran = λ _. refl;
+  reply = λ _. told {r = replyIn ns′ s} (o .call);
+  size = o .stay .size;
+  past = λ j l. o .stay .others j (λ e. omega arith) (λ e. omega arith) (λ e. omega arith) (λ e. omega arith) (λ e. omega arith) (λ e. omega arith) (λ e. omega arith) (λ e. omega arith);
+})
 
 -- ---- a look
 module _ {ns ws out : List ℕ} {t : ℕ} {c : Call} (look : Look c) where

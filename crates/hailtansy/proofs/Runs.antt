@@ -17,7 +17,7 @@ use Rattle.expiring_model.specs.Lists.{Calls, answersOf, bookAtEnd}
 use Rattle.expiring.proofs.Accounts.{counted}
 use Rattle.expiring.proofs.Runs.{ReadsAs}
 use Rattle.replay.specs.Runs.{withAnswer}
-use Rattle.replay_expiring.specs.Numbers.{bookIn}
+use Rattle.expiring.specs.Numbers.{bookIn}
 use Rattle.replay_expiring.specs.Words.{ofAnswer}
 use Rattle.replay_expiring.specs.Runs.{ofReply, toldIn, discardedIn, wordsOf, Fits, Opens, defaultBy, outcomeBy}
 use Rattle.replay_expiring.proofs.Runs.{told-then, discarded-then}

@@ -11,7 +11,7 @@ use Rattle.expiring_model.specs.Model.{Book, Call, bookAfter}
 use Rattle.expiring_model.specs.Discards.{heapBy}
 use Rattle.expiring.specs.Calls.{Following}
 use Rattle.replay.specs.Runs.{withAnswer}
-use Rattle.replay_expiring.specs.Numbers.{bookIn}
+use Rattle.expiring.specs.Numbers.{bookIn}
 use Rattle.replay_expiring.specs.Runs.{ofReply}
 
 -- room for the numbers and an answer

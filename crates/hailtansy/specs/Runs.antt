@@ -9,7 +9,7 @@ use Rattle.expiring_model.specs.Model.{Book, Call}
 use Rattle.expiring.specs.Book.{IsBook, heapOf, modelOf}
 use Rattle.expiring_model.specs.Lists.{Calls, answersOf, bookAtEnd}
 use Rattle.replay.specs.declared.answer.Answer as replay
-use Rattle.replay_expiring.specs.Numbers.{bookIn}
+use Rattle.expiring.specs.Numbers.{bookIn}
 use Rattle.replay_expiring.specs.Runs.{toldIn, discardedIn, wordsOf}
 use Rattle.hailtansy.specs.Calls.{Room, tickOf, Called, Looked}
 

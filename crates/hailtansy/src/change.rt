@@ -23,9 +23,8 @@ pub extern "C" fn hailtansy_get(
     if answer.len() < 4 {
         return 0;
     }
-    let book = replay_expiring::book_in(numbers);
-    let reply = book.get(words, Tick(tick), key);
-    tell::store_reply(numbers, answer, reply);
+    let said = expiring::get(numbers, words, Tick(tick), key);
+    tell::store_said(answer, said);
     1
 }
 
@@ -47,9 +46,8 @@ pub extern "C" fn hailtansy_insert(
     if answer.len() < 4 {
         return 0;
     }
-    let book = replay_expiring::book_in(numbers);
-    let reply = book.insert(words, Tick(tick), key, value);
-    tell::store_reply(numbers, answer, reply);
+    let said = expiring::insert(numbers, words, Tick(tick), key, value);
+    tell::store_said(answer, said);
     1
 }
 
@@ -73,10 +71,9 @@ pub extern "C" fn hailtansy_insert_with_ttl(
     if answer.len() < 4 {
         return 0;
     }
-    let book = replay_expiring::book_in(numbers);
     let ttl = Duration::of(secs, nanos);
-    let reply = book.insert_with_ttl(words, Tick(tick), key, value, ttl);
-    tell::store_reply(numbers, answer, reply);
+    let said = expiring::insert_with_ttl(numbers, words, Tick(tick), key, value, ttl);
+    tell::store_said(answer, said);
     1
 }
 
@@ -97,9 +94,8 @@ pub extern "C" fn hailtansy_remove(
     if answer.len() < 4 {
         return 0;
     }
-    let book = replay_expiring::book_in(numbers);
-    let reply = book.remove(words, Tick(tick), key);
-    tell::store_reply(numbers, answer, reply);
+    let said = expiring::remove(numbers, words, Tick(tick), key);
+    tell::store_said(answer, said);
     1
 }
 
@@ -119,7 +115,7 @@ pub extern "C" fn hailtansy_clear(
     if answer.len() < 4 {
         return 0;
     }
-    let book = replay_expiring::book_in(numbers);
+    let book = expiring::book_in(numbers);
     let reply = book.clear(words, Tick(tick));
     tell::store_reply(numbers, answer, reply);
     1
@@ -144,10 +140,9 @@ pub extern "C" fn hailtansy_set_ttl(
     if answer.len() < 4 {
         return 0;
     }
-    let book = replay_expiring::book_in(numbers);
     let ttl = Duration::of(secs, nanos);
-    let reply = book.set_ttl(words, Tick(tick), key, ttl);
-    tell::store_reply(numbers, answer, reply);
+    let said = expiring::set_ttl(numbers, words, Tick(tick), key, ttl);
+    tell::store_said(answer, said);
     1
 }
 
@@ -167,7 +162,7 @@ pub extern "C" fn hailtansy_purge_expired(
     if answer.len() < 4 {
         return 0;
     }
-    let book = replay_expiring::book_in(numbers);
+    let book = expiring::book_in(numbers);
     let reply = book.purge_expired(words, Tick(tick));
     tell::store_reply(numbers, answer, reply);
     1
@@ -189,7 +184,7 @@ pub extern "C" fn hailtansy_next_deadline(
     if answer.len() < 4 {
         return 0;
     }
-    let book = replay_expiring::book_in(numbers);
+    let book = expiring::book_in(numbers);
     let reply = book.next_deadline(words, Tick(tick));
     tell::store_reply(numbers, answer, reply);
     1
@@ -212,7 +207,7 @@ pub extern "C" fn hailtansy_touch(
     if answer.len() < 4 {
         return 0;
     }
-    let book = replay_expiring::book_in(numbers);
+    let book = expiring::book_in(numbers);
     let reply = book.touch(words, Tick(tick), key);
     tell::store_reply(numbers, answer, reply);
     1
@@ -234,7 +229,7 @@ pub extern "C" fn hailtansy_pop_lru(
     if answer.len() < 4 {
         return 0;
     }
-    let book = replay_expiring::book_in(numbers);
+    let book = expiring::book_in(numbers);
     let reply = book.pop_lru(words, Tick(tick));
     tell::store_reply(numbers, answer, reply);
     1

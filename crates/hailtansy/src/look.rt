@@ -21,7 +21,7 @@ pub extern "C" fn hailtansy_contains(
     if answer.len() < 4 {
         return 0;
     }
-    let book = replay_expiring::book_in(numbers);
+    let book = expiring::book_in(numbers);
     let reply = book.contains(words, Tick(tick), key);
     tell::store_answer(answer, reply);
     1
@@ -44,7 +44,7 @@ pub extern "C" fn hailtansy_peek(
     if answer.len() < 4 {
         return 0;
     }
-    let book = replay_expiring::book_in(numbers);
+    let book = expiring::book_in(numbers);
     let reply = book.peek(words, Tick(tick), key);
     tell::store_answer(answer, reply);
     1
@@ -67,7 +67,7 @@ pub extern "C" fn hailtansy_ttl_status(
     if answer.len() < 4 {
         return 0;
     }
-    let book = replay_expiring::book_in(numbers);
+    let book = expiring::book_in(numbers);
     let reply = book.ttl_status(words, Tick(tick), key);
     tell::store_answer(answer, reply);
     1
@@ -90,7 +90,7 @@ pub extern "C" fn hailtansy_recency_rank(
     if answer.len() < 4 {
         return 0;
     }
-    let book = replay_expiring::book_in(numbers);
+    let book = expiring::book_in(numbers);
     let reply = book.recency_rank(words, Tick(tick), key);
     tell::store_answer(answer, reply);
     1
@@ -112,7 +112,7 @@ pub extern "C" fn hailtansy_live_len(
     if answer.len() < 4 {
         return 0;
     }
-    let book = replay_expiring::book_in(numbers);
+    let book = expiring::book_in(numbers);
     let reply = book.live_len(words, Tick(tick));
     tell::store_answer(answer, reply);
     1
@@ -134,7 +134,7 @@ pub extern "C" fn hailtansy_expirations(
     if answer.len() < 4 {
         return 0;
     }
-    let book = replay_expiring::book_in(numbers);
+    let book = expiring::book_in(numbers);
     let reply = book.expirations(words, Tick(tick));
     tell::store_answer(answer, reply);
     1
@@ -156,7 +156,7 @@ pub extern "C" fn hailtansy_peek_lru(
     if answer.len() < 4 {
         return 0;
     }
-    let book = replay_expiring::book_in(numbers);
+    let book = expiring::book_in(numbers);
     let reply = book.peek_lru(words, Tick(tick));
     tell::store_answer(answer, reply);
     1

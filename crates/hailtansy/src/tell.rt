@@ -3,9 +3,24 @@ ghost use mathlib.Core.Path.{_≡_};
 ghost use Prim.Native.Nat.{_≤_};
 ghost use lib.ListN.{length};
 ghost use Rattle.replay.specs.Runs.{withAnswer};
-ghost use Rattle.replay_expiring.specs.Numbers.{withBook};
+ghost use Rattle.expiring.specs.Numbers.{withBook};
+ghost use Rattle.replay_expiring.specs.Words.{ofAnswer};
 ghost use Rattle.replay_expiring.specs.Runs.{ofReply};
 use expiring::Reply;
+use expiring::Said;
+
+// Writes what a call on the numbers themselves said.
+pub fn store_said(answer: &mut [u64], said: Said)
+    requires { ⌜ 4 ≤ length (now answer) ⌝ }
+    ensures { λ _. ⌜ now (answer .exit) ≡ withAnswer (now (answer .entry)) 0 (ofAnswer (said .answer) (said .discarded)) ⌝ }
+{
+    let told = said.answer;
+    replay::store_answer(
+        answer,
+        0,
+        replay_expiring::of_answer(told, said.discarded as u64),
+    );
+}
 
 // Writes the answer.
 pub fn store_answer(answer: &mut [u64], reply: Reply)
@@ -26,6 +41,6 @@ pub fn store_reply(numbers: &mut [u64], answer: &mut [u64], reply: Reply)
     ensures { λ _. ⌜ (now (numbers .exit) ≡ withBook (now (numbers .entry)) (reply .book)) × (now (answer .exit) ≡ withAnswer (now (answer .entry)) 0 (ofReply reply)) ⌝ }
 {
     let book = reply.book;
-    replay_expiring::store_book(numbers, book);
+    expiring::store_book(numbers, book);
     store_answer(answer, reply);
 }
