@@ -1,9 +1,9 @@
 -- The calls that change nothing: refused, or what the map says read as items.
 use mathlib.Core.Path.{_≡_, refl, sym, ap, _∙_}
 use mathlib.Core.Bool.{Bool, true, false, true≢false}
-use mathlib.Core.List.{List}
+use mathlib.Core.List.{List, [], _∷_}
 use mathlib.Core.Option.{some}
-use Prim.Native.Nat.{ℕ, _+_, _-_, _<_, _≤_}
+use Prim.Native.Nat.{ℕ, zero, suc, _+_, _-_, _<_, _≤_}
 use native.Mathlib.Omega.{arith}
 use lib.Dec.{eqb}
 use lib.ListN.{length}
@@ -14,7 +14,10 @@ use Rattle.linked_hash_map.specs.declared.map.Record.{Record}
 use Rattle.linked_hash_map.specs.declared.map.Slot.{Slot}
 use Rattle.linked_hash_map.specs.declared.map.Slot.the-variants as slot
 use Rattle.linked_hash_map.specs.declared.map.Taken.the-variants as taken
-use Rattle.linked_hash_map.specs.Map.{IsMap, slotAt}
+use Rattle.linked_hash_map.specs.Model as held
+use Rattle.linked_hash_map.specs.Map.{IsMap, slotOf, slotAt}
+use Rattle.linked_hash_map.specs.Map as map
+use Rattle.linked_hash_map.proofs.Putting.{model-length as map-length}
 use Rattle.linked_hash_map.specs.Calls as calls
 use Rattle.linked_hash_map.proofs.Laws as laws
 use Rattle.fast_lru.specs.declared.lru.FastLru.{FastLru}
@@ -30,7 +33,7 @@ use Rattle.fast_lru.specs.declared.answers.Count.the-variants as count
 use Rattle.fast_lru.specs.Refusals.{admitted}
 use Rattle.fast_lru.specs.Model.{Item, has, tell, rankOf}
 use Rattle.fast_lru.specs.Lru.{itemOf, modelOf}
-use Rattle.fast_lru.specs.Steps.{nth, isAt, ValueAt, Picking, RankBetween, RankOf}
+use Rattle.fast_lru.specs.Steps.{nth, isAt, ValueAt, Picking, RankBetween, RankFrom, RankOf}
 use Rattle.fast_lru.specs.Calls.{Length, Emptiness, Capacity, Containing, Peeking, PeekingOldest, Ranking, Checking}
 use Rattle.fast_lru.proofs.Lists.{Within, nth-has, rank-there, rank-nowhere}
 use Rattle.fast_lru.proofs.Limits.{done, admitted-fits, list-admitted}
@@ -139,25 +142,17 @@ pub record Walks (ws : List ℕ) (l : FastLru) (k s t i j : ℕ) : Type 0 where
 pub rank-never : (why : Refusal) → rank.Nothing ≡ rank.Refused why → ⊥
 rank-never why e = let z : _≡_ {A = ℕ} 0 1 = cc in omega arith
 
+-- a place below the length has a record
+record-there : (i : ℕ) (m : held.Model) → i < length m → (r : Record) × (held.nth i m ≡ taken.Record r)
+unfolding held.nth
+record-there i [] h = absurd (omega arith)
+record-there zero (r ∷ m) h = (r, refl)
+record-there (suc i) (r ∷ m) h = record-there i m (omega arith)
+
 module _ (ws : List ℕ) (l : FastLru) (k : ℕ) where
   rank-none : Within k (modelOf ws l) (λ p. ⊥) → rank.Nothing ≡ rankOf k (modelOf ws l)
   unfolding rankOf
   rank-none bare = sym (rank-nowhere 0 k (modelOf ws l) bare)
-
-  -- the place of a slot is the rank of the key there, and of no other
-  module _ (s p : ℕ) (is : IsMap ws (l .map)) (at : slotAt ws (l .map) p ≡ slot.At s) (r : Record) (h : calls.Reading ws (l .map) s r) where
-    item : nth p (modelOf ws l) ≡ some (itemOf r)
-    item = place-item ws l p (taken.Record r) (h .placed is p at)
-
-    pub rank-found : r .key ≡ k → rank.At p ≡ rankOf k (modelOf ws l)
-    unfolding rankOf
-    rank-found e = sym (rank-there 0 p k p (modelOf ws l) (itemOf r) (omega arith) (model-distinct ws l is) item e)
-
-    elsewhere : (r .key ≡ k → ⊥) → Within k (modelOf ws l) (λ q. q ≡ p → ⊥)
-    elsewhere ne q x b e m z =
-        let same : some (itemOf r) ≡ some x = sym item ∙ ap (λ (n : ℕ). nth n (modelOf ws l)) (sym z) ∙ e in
-        let one : itemOf r ≡ x = cc in
-        ne (ap (λ (y : Item). y .key) one ∙ m)
 
   pub walks-begin : (s t : ℕ) → slotAt ws (l .map) 0 ≡ slot.At s → slotAt ws (l .map) (l .map .len - 1) ≡ slot.At t → Walks ws l k s t 0 (l .map .len)
   walks-begin s t e f = record {
@@ -166,27 +161,51 @@ module _ (ws : List ℕ) (l : FastLru) (k : ℕ) where
     between = λ p x b n m. omega (arith, model-length ws l);
   }
 
-  module _ (s t i j : ℕ) (is : IsMap ws (l .map)) (w : Walks ws l k s t i j) where
-    pub walks-met : j ≤ i → rank.Nothing ≡ rankOf k (modelOf ws l)
-    walks-met h = rank-none (λ p x b n m. omega (arith, w .between p x b n m))
+  pub walks-met : (s t i j : ℕ) → Walks ws l k s t i j → j ≤ i → rank.Nothing ≡ rankOf k (modelOf ws l)
+  walks-met s t i j w h = rank-none (λ p x b n m. omega (arith, w .between p x b n m))
 
-    -- a turn in which neither item has the key
-    module _ (apart : i < j) (a : Record) (front : calls.Reading ws (l .map) s a) (na : a .key ≡ k → ⊥) (b : Record) (back : calls.Reading ws (l .map) t b) (nb : b .key ≡ k → ⊥) where
+  -- with the slot of the key
+  module _ (is : IsMap ws (l .map)) (x : ℕ) (found : slotOf ws (l .map) k ≡ slot.At x) where
+    -- the place of a slot is the rank of the key there, and of no other
+    module _ (s p : ℕ) (at : slotAt ws (l .map) p ≡ slot.At s) where
+      there : (r : Record) × (held.nth p (map.modelOf ws (l .map)) ≡ taken.Record r)
+      there = record-there p (map.modelOf ws (l .map)) (omega (arith, map-length ws (l .map), laws.place-below ws (l .map) p s at))
+
+      item : nth p (modelOf ws l) ≡ some (itemOf (there .0))
+      item = place-item ws l p (taken.Record (there .0)) (there .1)
+
+      keyed : slotOf ws (l .map) (there .0 .key) ≡ slot.At s
+      keyed = laws.place-key is p s (there .0) at (there .1)
+
+      pub rank-found : s ≡ x → rank.At p ≡ rankOf k (modelOf ws l)
+      unfolding rankOf
+      rank-found e = sym (rank-there 0 p k p (modelOf ws l) (itemOf (there .0)) (omega arith) (model-distinct ws l is) item (laws.slot-key ws (l .map) (there .0 .key) k s keyed (found ∙ ap slot.At (sym e))))
+
+      elsewhere : (s ≡ x → ⊥) → Within k (modelOf ws l) (λ q. q ≡ p → ⊥)
+      elsewhere ne q y b e m z =
+          let same : some (itemOf (there .0)) ≡ some y = sym item ∙ ap (λ (n : ℕ). nth n (modelOf ws l)) (sym z) ∙ e in
+          let one : itemOf (there .0) ≡ y = cc in
+          let key : there .0 .key ≡ k = ap (λ (y : Item). y .key) one ∙ m in
+          let slots : slot.At s ≡ slot.At x = sym keyed ∙ ap (slotOf ws (l .map)) key ∙ found in
+          ne cc
+
+    -- a turn in which neither slot is the key's
+    module _ (s t i j : ℕ) (w : Walks ws l k s t i j) (apart : i < j) (na : s ≡ x → ⊥) (nb : t ≡ x → ⊥) where
       last : slotAt ws (l .map) (j - 1) ≡ slot.At t
       last = w .back (j - 1) (omega arith)
 
       inside : Within k (modelOf ws l) (λ p. (i < p) × (p < j - 1))
-      inside p x h n m =
-          let f : p ≡ i → ⊥ = elsewhere s i is (w .front) a front na p x h n m in
-          let g : p ≡ j - 1 → ⊥ = elsewhere t (j - 1) is last b back nb p x h n m in
-          omega (arith, w .between p x h n m)
+      inside p y h n m =
+          let f : p ≡ i → ⊥ = elsewhere s i (w .front) na p y h n m in
+          let g : p ≡ j - 1 → ⊥ = elsewhere t (j - 1) last nb p y h n m in
+          omega (arith, w .between p y h n m)
 
-      module _ (x : Slot) (next : calls.Next ws (l .map) s x) where
-        after : slotAt ws (l .map) (i + 1) ≡ x
+      module _ (u : Slot) (next : calls.Next ws (l .map) s u) where
+        after : slotAt ws (l .map) (i + 1) ≡ u
         after = sym (next .answer is i (w .front))
 
-        pub front-end : ((u : ℕ) → x ≡ slot.At u → ⊥) → rank.Nothing ≡ rankOf k (modelOf ws l)
-        front-end bare = rank-none (λ p y h n m. omega (arith, inside p y h n m, model-length ws l, place-past ws l (i + 1) x bare after))
+        pub front-end : ((v : ℕ) → u ≡ slot.At v → ⊥) → rank.Nothing ≡ rankOf k (modelOf ws l)
+        front-end bare = rank-none (λ p y h n m. omega (arith, inside p y h n m, model-length ws l, place-past ws l (i + 1) u bare after))
 
         module _ (z : Slot) (previous : calls.Previous ws (l .map) t z) where
           before : (p : ℕ) → p + 1 ≡ j - 1 → slotAt ws (l .map) p ≡ z
@@ -197,8 +216,8 @@ module _ (ws : List ℕ) (l : FastLru) (k : ℕ) where
               let r : (i < p) × (p < j - 1) = inside p y h n m in
               omega (arith, laws.place-below ws (l .map) (j - 1) t last, place-past ws l (j - 2) z bare (before (j - 2) (omega arith))))
 
-          pub walks-on : (u v : ℕ) → x ≡ slot.At u → z ≡ slot.At v → Walks ws l k u v (i + 1) (j - 1)
-          walks-on u v e f = record { front = after ∙ e; back = λ p q. before p q ∙ f; between = λ p y h n m. omega (arith, inside p y h n m) }
+          pub walks-on : (a b : ℕ) → u ≡ slot.At a → z ≡ slot.At b → Walks ws l k a b (i + 1) (j - 1)
+          walks-on a b e f = record { front = after ∙ e; back = λ p q. before p q ∙ f; between = λ p y h n m. omega (arith, inside p y h n m) }
 
   -- a missing key has no rank, and is not walked for
   pub rank-missing : (x : Slot) → calls.Finding ws (l .map) k x → isAt x ≡ false → RankOf ws l k rank.Nothing
@@ -207,9 +226,14 @@ module _ (ws : List ℕ) (l : FastLru) (k : ℕ) where
     answer = λ is. rank-none (λ p y b n m. true≢false (sym (nth-has p (modelOf ws l) y n) ∙ ap (λ (j : ℕ). has j (modelOf ws l)) m ∙ has-slot ws l k ∙ ap isAt (sym (f .answer is)) ∙ e));
   }
 
-  -- a list with no first item, or no last one, is empty
-  pub rank-no-end : (x : Slot) (p : ℕ) → p ≤ l .map .len - 1 → calls.Ending ws (l .map) p x → ((s : ℕ) → x ≡ slot.At s → ⊥) → RankOf ws l k rank.Nothing
-  rank-no-end x p low end bare = record { never = rank-never; answer = λ is. rank-none (λ q y b n m. omega (arith, model-length ws l, place-past ws l p x bare (sym (end .answer is)))) }
+-- a list with no first item, or no last one, is empty
+module _ (ws : List ℕ) (l : FastLru) (slot₀ : ℕ) where
+  pub rank-no-end : (x : Slot) (p : ℕ) → p ≤ l .map .len - 1 → calls.Ending ws (l .map) p x → ((s : ℕ) → x ≡ slot.At s → ⊥) → RankFrom ws l slot₀ rank.Nothing
+  rank-no-end x p low end bare = record { never = rank-never; answer = λ is k found. rank-none ws l k (λ q y b n m. omega (arith, model-length ws l, place-past ws l p x bare (sym (end .answer is)))) }
 
-  pub rank-ends : (x z : Slot) (s t : ℕ) (r : Rank) → calls.Ending ws (l .map) 0 x → calls.Ending ws (l .map) (l .map .len - 1) z → x ≡ slot.At s → z ≡ slot.At t → RankBetween ws l k s t r → RankOf ws l k r
-  rank-ends x z s t r first last e f b = record { never = b .never; answer = λ is. b .answer is (sym (first .answer is) ∙ e) (sym (last .answer is) ∙ f) }
+  pub rank-ends : (x z : Slot) (s t : ℕ) (r : Rank) → calls.Ending ws (l .map) 0 x → calls.Ending ws (l .map) (l .map .len - 1) z → x ≡ slot.At s → z ≡ slot.At t → RankBetween ws l slot₀ s t r → RankFrom ws l slot₀ r
+  rank-ends x z s t r first last e f b = record { never = b .never; answer = λ is k found. b .answer is k found (sym (first .answer is) ∙ e) (sym (last .answer is) ∙ f) }
+
+-- the rank from a key's slot is the key's
+pub rank-from : {ws : List ℕ} {l : FastLru} {k x : ℕ} {y : Slot} {r : Rank} → calls.Finding ws (l .map) k y → y ≡ slot.At x → RankFrom ws l x r → RankOf ws l k r
+rank-from f e b = record { never = b .never; answer = λ is. b .answer is _ (sym (f .answer is) ∙ e) }

@@ -95,11 +95,16 @@ pub record Placing (ws : List ℕ) (l : FastLru) (x : Record) (ws′ : List ℕ)
   pub kept : words.Kept (l .map .capacity) ws ws′
 
 -- `rank_between`: the walks from the first item's slot and from the last one's
-pub record RankBetween (ws : List ℕ) (l : FastLru) (k s t : ℕ) (r : Rank) : Type 0 where
+pub record RankBetween (ws : List ℕ) (l : FastLru) (x s t : ℕ) (r : Rank) : Type 0 where
   pub never : (why : Refusal) → r ≡ rank.Refused why → ⊥
-  pub answer : IsMap ws (l .map) → slotAt ws (l .map) 0 ≡ slot.At s → slotAt ws (l .map) (l .map .len - 1) ≡ slot.At t → r ≡ rankOf k (modelOf ws l)
+  pub answer : IsMap ws (l .map) → (k : ℕ) → slotOf ws (l .map) k ≡ slot.At x → slotAt ws (l .map) 0 ≡ slot.At s → slotAt ws (l .map) (l .map .len - 1) ≡ slot.At t → r ≡ rankOf k (modelOf ws l)
 
--- `rank_of` and `rank_from_ends`
+-- `rank_from_ends`: of the key whose slot it is
+pub record RankFrom (ws : List ℕ) (l : FastLru) (x : ℕ) (r : Rank) : Type 0 where
+  pub never : (why : Refusal) → r ≡ rank.Refused why → ⊥
+  pub answer : IsMap ws (l .map) → (k : ℕ) → slotOf ws (l .map) k ≡ slot.At x → r ≡ rankOf k (modelOf ws l)
+
+-- `rank_of`
 pub record RankOf (ws : List ℕ) (l : FastLru) (k : ℕ) (r : Rank) : Type 0 where
   pub never : (why : Refusal) → r ≡ rank.Refused why → ⊥
   pub answer : IsMap ws (l .map) → r ≡ rankOf k (modelOf ws l)

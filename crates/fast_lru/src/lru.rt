@@ -4,7 +4,7 @@ ghost use Rattle.fast_lru.specs.Refusals.{outOfRange, admitted};
 ghost use Rattle.fast_lru.specs.Refusals as refusals;
 ghost use Rattle.fast_lru.specs.Model.{tell};
 ghost use Rattle.fast_lru.specs.Calls.{Opening, Clearing, Length, Emptiness, Capacity, Containing, Getting, Peeking, Inserting, Removing, Popping, PeekingOldest, Touching, Ranking, Checking};
-ghost use Rattle.fast_lru.specs.Steps.{isAt, ValueAt, ItemAt, Picking, Choosing, Taking, PlacingFull, Placing, RankBetween, RankOf};
+ghost use Rattle.fast_lru.specs.Steps.{isAt, ValueAt, ItemAt, Picking, Choosing, Taking, PlacingFull, Placing, RankBetween, RankFrom, RankOf};
 use crate::answers::Count;
 use crate::answers::Found;
 use crate::answers::Got;
@@ -463,20 +463,20 @@ impl FastLru {
     {
         let map = self.map;
         match map.find(words, key) {
-            Slot::At(_) => self.rank_from_ends(words, key),
+            Slot::At(x) => self.rank_from_ends(words, x),
             Slot::Nothing => Rank::Nothing,
             Slot::Refused => Rank::Nothing,
         }
     }
 
     // From both ends at once: two walks side by side take no longer than one, and the shorter has half the way at most.
-    fn rank_from_ends(self, words: &[u64], key: u64) -> Rank
-        ensures { λ r. ⌜ RankOf (now (words .entry)) self key r ⌝ }
+    fn rank_from_ends(self, words: &[u64], slot: usize) -> Rank
+        ensures { λ r. ⌜ RankFrom (now (words .entry)) self slot r ⌝ }
     {
         let map = self.map;
         match map.first(words) {
             Slot::At(s) => match map.last(words) {
-                Slot::At(t) => self.rank_between(words, key, s, t),
+                Slot::At(t) => self.rank_between(words, slot, s, t),
                 Slot::Nothing => Rank::Nothing,
                 Slot::Refused => Rank::Nothing,
             },
@@ -485,10 +485,10 @@ impl FastLru {
         }
     }
 
-    // Walks from the first item's slot and from the last one's until they meet. (Numbers that are no list's may say more
+    // Walks from the first item's slot and from the last one's until they meet, with no look at a key. (Numbers that are no list's may say more
     // items than there is room for: those are not walked.)
-    fn rank_between(self, words: &[u64], key: u64, first: usize, last: usize) -> Rank
-        ensures { λ r. ⌜ RankBetween (now (words .entry)) self key first last r ⌝ }
+    fn rank_between(self, words: &[u64], slot: usize, first: usize, last: usize) -> Rank
+        ensures { λ r. ⌜ RankBetween (now (words .entry)) self slot first last r ⌝ }
     {
         let map = self.map;
         if map.capacity < map.len {
@@ -500,12 +500,10 @@ impl FastLru {
         let mut end = map.len;
         while rank < end {
             let back_rank = end - 1;
-            let newer = map.record(words, front);
-            if newer.key == key {
+            if front == slot {
                 return Rank::At(rank);
             }
-            let older = map.record(words, back);
-            if older.key == key {
+            if back == slot {
                 return Rank::At(back_rank);
             }
             match map.next(words, front) {
