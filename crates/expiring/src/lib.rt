@@ -9,6 +9,9 @@
 // Each call is handed the tick that the clock reads. It answers with the book's numbers beside its answer; whoever makes
 // the next call hands these numbers in again. Any words and any numbers may be handed to any call. A refusal changes
 // nothing; on words and numbers that form no book, only they may change.
+//
+// For a caller that keeps the numbers in words, `get`, `insert`, `insert_with_ttl`, `remove` and `set_ttl` are also functions that
+// change them where they stand, and answer `Said`; the methods are made of these.
 mod answers;
 mod expiring;
 mod numbers;
