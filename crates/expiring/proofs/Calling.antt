@@ -13,7 +13,6 @@ use Rattle.expiration_index.specs.declared.index.ExpirationIndex.{ExpirationInd
 use Rattle.expiration_index.specs.declared.answers.Deadline.{Deadline}
 use Rattle.expiring_model.specs.declared.answers.Answer.the-variants as answers
 use Rattle.expiring.specs.declared.expiring.Expiring.{Expiring}
-use Rattle.expiring.specs.declared.expiring.Dated.{Dated}
 use Rattle.expiring_model.specs.Model.{Change, keep, set, valueIn}
 use Rattle.expiring.specs.Book.{IsBook}
 use Rattle.expiring.specs.Steps.{ofFound, comeBy, withList, withIndex, storedOf, DeadlineOf, Moved, same, Dating, beyond, expiredIn, valueOf, unless, Acting, concluding, Inserting}
@@ -50,9 +49,9 @@ not-false : (x : Bool) → not x ≡ false → x ≡ true
 not-false true e = refl
 not-false false e = absurd (true≢false e)
 
-module _ {ws ws′ : List ℕ} {b : Expiring} {k : ℕ} {t : Tick} {r : Dated} (d : Dating ws b k t ws′ r) where
-  pub unset-beyond : r .«is_set» ≡ false → IsBook ws b → beyond (set k t) ws b ≡ true
+module _ {ws ws′ : List ℕ} {b : Expiring} {k : ℕ} {t : Tick} {b′ : Expiring} {accepted : Bool} {n : ℕ} (d : Dating ws b k t ws′ b′ accepted n) where
+  pub unset-beyond : accepted ≡ false → IsBook ws b → beyond (set k t) ws b ≡ true
   unset-beyond e o = not-false _ (sym (d .answer o) ∙ e)
 
-  pub set-within : r .«is_set» ≡ true → IsBook ws b → beyond (set k t) ws b ≡ false
+  pub set-within : accepted ≡ true → IsBook ws b → beyond (set k t) ws b ≡ false
   set-within e o = not-true _ (sym (d .answer o) ∙ e)

@@ -1,6 +1,6 @@
 -- From what the layers below promise of a step to what it does to the book that the numbers tell.
 use mathlib.Core.Path.{_≡_, refl, sym, ap, subst, _∙_}
-use mathlib.Core.Bool.{Bool, true, false, cond}
+use mathlib.Core.Bool.{true, false, cond}
 use mathlib.Core.List.{List}
 use Prim.Native.Nat.{ℕ, _^_, _<_, _≤_}
 use lib.ListN.{length, getD}
@@ -13,7 +13,6 @@ use Rattle.fast_lru.specs.declared.answers.Got.{Got}
 use Rattle.fast_lru.specs.Model.{Items}
 use Rattle.fast_lru.specs.Model as list
 use Rattle.fast_lru.specs.Calls as lru
-use Rattle.expiration_index.specs.declared.index.ExpirationIndex.{ExpirationIndex}
 use Rattle.expiration_index.specs.declared.answers.Changed.{Changed}
 use Rattle.expiration_index.specs.declared.answers.Deadline.{Deadline}
 use Rattle.expiration_index.specs.Calls as calls
@@ -44,7 +43,7 @@ module _ {ns ws : List ℕ} (ready : Ready ns (length ws)) (k : ℕ) {ys : List 
         stay = stay-deadlines ns (r .index);
         size = index-kept ws (bookIn ns) (ready .room) (r .index) (o .kept) .size;
         part = part ∙ ap (withIndex (bookIn ns)) (sym index);
-        dating = rw index (dating ws (bookIn ns) (ready .room) k t o refl);
+        dating = rw index (dating ws (bookIn ns) (ready .room) k t o);
         held = set-held ws (bookIn ns) (ready .room) k t o;
         refused = λ e. let why = refused-how (r .answer) e in part ∙ ap (withIndex (bookIn ns)) (o .refused (why .0) (why .1) .0);
       }

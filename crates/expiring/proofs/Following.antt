@@ -44,7 +44,6 @@ use Rattle.expiring_model.specs.declared.answers.Answer.the-variants as answers
 use Rattle.expiring.specs.declared.answers.Reply.{Reply}
 use Rattle.expiring.specs.declared.expiring.Expiring.{Expiring}
 use Rattle.expiring_model.specs.declared.lifetimes.DefaultTtl.the-variants as default
-use Rattle.expiring.specs.declared.expiring.Dated.{Dated}
 use Rattle.expiring_model.specs.Model.{Call, contains, peek, get, insert, remove, clear, insertWithTtl, ttlStatus, setTtl, liveLen, expirations, nextDeadline, touch, recencyRank, popLru, peekLru, keep, set, drop, dropAll, isExpired, changeOf, storedAfter, expiredBy, answered, badNanos, valueUnlessExpired, itemIn, dueIn, rankIn, tell, statusIn, livesAt}
 use Rattle.expiring.specs.Book.{limitsOf, Room, capacityOf, limitOf, IsBook, modelOf}
 use Rattle.expiring.specs.Calls.{Following}
@@ -258,18 +257,18 @@ module _ (ws : List ℕ) (b : Expiring) (t : Tick) (limits : limitsOf (capacityO
             follow ws b t (setTtl k d) limits (rw i) (acting v (λ o. refl) word (tell-accepted false) (λ o. refl) (λ o. refl) (λ o. refl))
             (λ o m n. rw (sym (held .answer o), y, sym (x .answer o), z, eq-eqb (millisOf d) 0 q)) (λ o m n. rw (sym (held .answer o), y, sym (x .answer o), z, eq-eqb (millisOf d) 0 q)) (λ o m n. rw (sym (held .answer o), y, sym (x .answer o), z)) (λ o m n. rw (sym (held .answer o), y, sym (x .answer o), z, eq-eqb (millisOf d) 0 q))
 
-        module _ (q : millisOf d ≡ 0 → ⊥) {l : TtlTicks} (f : millisOf d ≡ l .0) {ws′ : List ℕ} {r : Dated} (a : Dating ws b k (deadlineFrom t l) ws′ r) where
+        module _ (q : millisOf d ≡ 0 → ⊥) {l : TtlTicks} (f : millisOf d ≡ l .0) {ws′ : List ℕ} {b′ : Expiring} {accepted : Bool} {n : ℕ} (a : Dating ws b k (deadlineFrom t l) ws′ b′ accepted n) where
           change : IsBook ws b → (m n : ℕ) → changeOf t (setTtl k d) (modelOf ws b m n) ≡ set k (deadlineFrom t l)
           unfolding changeOf modelOf isExpired
           change o m n = rw (sym (held .answer o), y, sym (x .answer o), z, ne-eqb (millisOf d) 0 q, f)
 
-          pub follow-ttl-full : r .«is_set» ≡ false → Following ws b t (setTtl k d) ws′ (replying b (answers.Refused KeyLimitReached))
+          pub follow-ttl-full : accepted ≡ false → Following ws b t (setTtl k d) ws′ (replying b (answers.Refused KeyLimitReached))
           unfolding storedAfter expiredBy answered badNanos modelOf isExpired
           follow-ttl-full u =
               follow ws b t (setTtl k d) limits (rw i) (acting-full ws b {s = storedOf ws b} {n = 0} {a = answers.Yes} (a .refused u) (unset-beyond a u)) change
               (λ o m n. rw (sym (held .answer o), y, sym (x .answer o), z, ne-eqb (millisOf d) 0 q)) (λ o m n. rw (sym (held .answer o), y, sym (x .answer o), z)) (λ o m n. rw (sym (held .answer o), y, sym (x .answer o), z, ne-eqb (millisOf d) 0 q))
 
-          pub follow-ttl-set : r .«is_set» ≡ true → Following ws b t (setTtl k d) ws′ (record { book = r .book; answer = answers.Yes; discarded = r .discarded })
+          pub follow-ttl-set : accepted ≡ true → Following ws b t (setTtl k d) ws′ (record { book = b′; answer = answers.Yes; discarded = n })
           unfolding storedAfter expiredBy answered badNanos modelOf isExpired
           follow-ttl-set u =
               follow ws b t (setTtl k d) limits (rw i) (acting (a .moved u) (set-within a u) word (tell-accepted true) (λ o. refl) (λ o. refl) (λ o. refl)) change

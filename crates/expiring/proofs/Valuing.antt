@@ -85,13 +85,13 @@ module _ (ws : List ℕ) (b : Expiring) (room : Room (length ws) (capacityOf b) 
   pub set-held : isAccepted (r .answer) ≡ true → DeadlineOf ws b k (r .answer)
   set-held e = record { answer = λ is. let full : isFull (limitOf b) k (deadlinesOf ws b) ≡ false = not-true _ (sym (said is) ∙ e) in o .answer (lent-index ws b room is) ∙ ap (λ (l : List ℕ). setAnswer (limitOf b) k (index.modelOf l (b .index))) (lent-is ws b room) ∙ rw full }
 
-  pub dating : {s : Bool} → s ≡ isAccepted (r .answer) → Dating ws b k t (back ws b ys) (record { book = withIndex b (r .index); «is_set» = s; discarded = r .discarded })
+  pub dating : Dating ws b k t (back ws b ys) (withIndex b (r .index)) (isAccepted (r .answer)) (r .discarded)
   unfolding pairsAfter heapAfter discards
-  dating e = record {
-    answer = λ is. e ∙ said is;
-    refused = λ q. let why = refused-how (r .answer) (sym e ∙ q) in ap (back ws b) (o .refused (why .0) (why .1) .2) ∙ put-same (start (capacityOf b)) (length ws - start (capacityOf b)) ws;
+  dating = record {
+    answer = said;
+    refused = λ q. let why = refused-how (r .answer) q in ap (back ws b) (o .refused (why .0) (why .1) .2) ∙ put-same (start (capacityOf b)) (length ws - start (capacityOf b)) ws;
     moved = λ q.
-        let free : IsBook ws b → isFull (limitOf b) k (index.modelOf (lent ws b) (b .index)) ≡ false = λ is. ap (λ (l : List ℕ). isFull (limitOf b) k (index.modelOf l (b .index))) (lent-is ws b room) ∙ not-true _ (sym (said is) ∙ sym e ∙ q) in
+        let free : IsBook ws b → isFull (limitOf b) k (index.modelOf (lent ws b) (b .index)) ≡ false = λ is. ap (λ (l : List ℕ). isFull (limitOf b) k (index.modelOf l (b .index))) (lent-is ws b room) ∙ not-true _ (sym (said is) ∙ q) in
         moved-index ws b room (r .index) (o .kept) (set k t) (o .limit) (λ is. o .index (lent-index ws b room is))
         (λ is. o .model (lent-index ws b room is) (free is) ∙ ap (λ (l : List ℕ). pairs.set k t (index.modelOf l (b .index))) (lent-is ws b room))
         (λ is. o .heap (lent-index ws b room is) (free is) ∙ ap (λ (l : List ℕ). updated k (t .0) (index.heapOf l (b .index))) (lent-is ws b room))

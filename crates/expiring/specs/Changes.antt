@@ -40,7 +40,7 @@ pub record Setting (ns ws : List ℕ) (k : ℕ) (t : Tick) (ns′ ws′ : List �
   pub stay : Stay ns ns′
   pub size : length ws′ ≡ length ws
   pub part : bookIn ns′ ≡ withIndex (bookIn ns) (indexIn ns′)
-  pub dating : Dating ws (bookIn ns) k t ws′ (record { book = withIndex (bookIn ns) (indexIn ns′); «is_set» = isAccepted (r .old); discarded = r .discarded })
+  pub dating : Dating ws (bookIn ns) k t ws′ (withIndex (bookIn ns) (indexIn ns′)) (isAccepted (r .old)) (r .discarded)
   pub held : isAccepted (r .old) ≡ true → DeadlineOf ws (bookIn ns) k (r .old)
   pub refused : isAccepted (r .old) ≡ false → bookIn ns′ ≡ bookIn ns
 

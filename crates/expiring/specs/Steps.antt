@@ -38,7 +38,6 @@ use Rattle.expiring_model.specs.declared.answers.Answer.the-variants as answers
 use Rattle.expiring.specs.declared.answers.Reply.{Reply}
 use Rattle.expiring.specs.declared.expiring.Expiring.{Expiring}
 use Rattle.expiring.specs.declared.expiring.Opened as expiring
-use Rattle.expiring.specs.declared.expiring.Dated.{Dated}
 use Rattle.expiring.specs.declared.expiring.Popped.{Popped}
 use Rattle.expiring.specs.declared.expiring.Defaulted.{Defaulted}
 use Rattle.expiring.specs.declared.expiring.Defaulted.the-variants as defaulted
@@ -151,11 +150,11 @@ pub record Moved (ws : List ℕ) (b : Expiring) (ch : Change) (f : Items → Ite
 abbrev pub same : Items → Items
 same s = s
 
--- `set_deadline`: as many keys as the limit may hold one
-pub record Dating (ws : List ℕ) (b : Expiring) (k : ℕ) (t : Tick) (ws′ : List ℕ) (r : Dated) : Type 0 where
-  pub answer : IsBook ws b → r .«is_set» ≡ not (isFull (limitOf b) k (deadlinesOf ws b))
-  pub refused : r .«is_set» ≡ false → ws′ ≡ ws
-  pub moved : r .«is_set» ≡ true → Moved ws b (set k t) same ws′ (r .book) (r .discarded)
+-- `set_deadline`: as many keys as the limit may hold one; the book after it, whether it was set, and how many entries were discarded
+pub record Dating (ws : List ℕ) (b : Expiring) (k : ℕ) (t : Tick) (ws′ : List ℕ) (b′ : Expiring) (accepted : Bool) (n : ℕ) : Type 0 where
+  pub answer : IsBook ws b → accepted ≡ not (isFull (limitOf b) k (deadlinesOf ws b))
+  pub refused : accepted ≡ false → ws′ ≡ ws
+  pub moved : accepted ≡ true → Moved ws b (set k t) same ws′ b′ n
 
 -- an insert, of the values
 abbrev pub putting : Expiring → ℕ → ℕ → Items → Items

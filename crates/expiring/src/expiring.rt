@@ -2,12 +2,11 @@
 ghost use mathlib.Core.Path.{_≡_};
 ghost use lib.ListN.{length};
 ghost use Rattle.time.specs.declared.refusal.Outcome.the-variants.{Refused};
-ghost use Rattle.fast_lru.specs.Model.{without};
 ghost use Rattle.expiring_model.specs.declared.answers.Answer.the-variants as answers;
-ghost use Rattle.expiring_model.specs.Model.{contains, peek, get, insert, remove, clear, insertWithTtl, ttlStatus, setTtl, purgeExpired, liveLen, expirations, nextDeadline, touch, recencyRank, popLru, peekLru, set, drop, dropAll, rankIn};
+ghost use Rattle.expiring_model.specs.Model.{contains, peek, get, insert, remove, clear, insertWithTtl, ttlStatus, setTtl, purgeExpired, liveLen, expirations, nextDeadline, touch, recencyRank, popLru, peekLru, dropAll, rankIn};
 ghost use Rattle.expiring.specs.Book.{Room, limitsOf, capacityOf, limitOf};
-ghost use Rattle.expiring.specs.Calls.{noBook, Following, Opening, Checking, DeadlinesHeld, HeapLength, SettingTtl};
-ghost use Rattle.expiring.specs.Steps.{ofFound, ofTold, ofOldest, ofDue, statusOf, isAccepted, comeBy, defaultedBy, saturatingSum, withList, withIndex, withExpired, replying, concluding, purging, DeadlineOf, Expired, Stored, StoredCount, ExpiredCount, Moved, same, Dating, Inserting, PoppingExpired};
+ghost use Rattle.expiring.specs.Calls.{noBook, Following, Opening, Checking, DeadlinesHeld, HeapLength};
+ghost use Rattle.expiring.specs.Steps.{ofFound, ofTold, ofOldest, ofDue, statusOf, isAccepted, comeBy, defaultedBy, saturatingSum, withList, withIndex, withExpired, replying, purging, DeadlineOf, Expired, Stored, StoredCount, ExpiredCount, Moved, same, PoppingExpired};
 ghost use Rattle.expiring.specs.Steps as steps;
 
 pub mod changes;
@@ -49,10 +48,9 @@ pub struct Opened {
     pub outcome: Outcome,
 }
 
-// A book after a step that may have been turned back, and how many entries the step discarded.
-struct Dated {
+// A book after its deadlines were dropped, and how many entries of the heap were discarded.
+struct Undated {
     book: Expiring,
-    is_set: bool,
     discarded: usize,
 }
 
@@ -677,16 +675,15 @@ impl Expiring {
 
     // ---- steps on the deadlines
 
-    fn drop_all_deadlines(self, words: &mut [u64]) -> Dated
+    fn drop_all_deadlines(self, words: &mut [u64]) -> Undated
         requires { ⌜ Room (length (now words)) (capacityOf self) (limitOf self) ⌝ }
         ensures { λ r. ⌜ Moved (now (words .entry)) self dropAll same (now (words .exit)) (r .book) (r .discarded) ⌝ }
     {
         let start = 64 + 8 * self.inner.map.capacity;
         let cleared = self.index.clear(&mut words[start..]);
         let index = cleared.index;
-        Dated {
+        Undated {
             book: self.with_index(index),
-            is_set: true,
             discarded: cleared.discarded,
         }
     }

@@ -3,7 +3,6 @@ ghost use mathlib.Core.Path.{_≡_};
 ghost use Prim.Native.Nat.{_≤_};
 ghost use lib.ListN.{length};
 ghost use Rattle.expiring_model.specs.Model.{set, drop, get, remove, insert, insertWithTtl, setTtl};
-ghost use Rattle.expiring.specs.Book.{capacityOf, limitOf};
 ghost use Rattle.fast_lru.specs.Model.{without};
 ghost use Rattle.expiring.specs.Numbers.{bookIn, withExpiration};
 ghost use Rattle.expiring.specs.Calls.{SettingTtl};
