@@ -3,6 +3,7 @@ use mathlib.Core.Path.{_≡_, refl, sym, ap, subst, _∙_}
 use mathlib.Core.Bool.{true, false, cond}
 use mathlib.Core.List.{List}
 use Prim.Native.Nat.{ℕ, _^_, _<_, _≤_}
+use native.Mathlib.Omega.{arith}
 use lib.ListN.{length, getD}
 use Rattle.time.specs.declared.tick.Tick.{Tick}
 use Rattle.time.specs.declared.refusal.Refusal.the-variants.{KeyLimitReached}
@@ -20,6 +21,7 @@ use Rattle.expiring_model.specs.declared.answers.Answer.{Answer}
 use Rattle.expiring_model.specs.declared.answers.Answer.the-variants as answers
 use Rattle.expiring.specs.declared.answers.Reply.{Reply}
 use Rattle.expiring.specs.declared.expiring.Expiring.{Expiring}
+use Rattle.expiring.specs.declared.expiring.changes.Said.{Said}
 use Rattle.expiring_model.specs.declared.lifetimes.DefaultTtl.{DefaultTtl}
 use Rattle.expiring_model.specs.Model.{Call, Change, drop}
 use Rattle.expiring.specs.Book.{limitsOf, capacityOf, limitOf, IsBook}
@@ -27,7 +29,7 @@ use Rattle.expiring.specs.Calls.{Following}
 use Rattle.expiring.specs.Numbers.{lruIn, indexIn, bookIn, withLru, withDeadlines, withHeld, withExpiration, withBook}
 use Rattle.expiring_answers.specs.Answers.{ofFound, comeBy}
 use Rattle.expiring.specs.Steps.{withList, withIndex, storedOf, DeadlineOf, Moved, same, beyond, expiredIn, valueOf, unless, Acting, concluding, Inserting, replying}
-use Rattle.expiring.specs.Changes.{Ready, replyIn, Setting, Dropping, Putting, Taking, Concluding}
+use Rattle.expiring.specs.Changes.{Ready, Stay, replyIn, tooFewNumbers, Setting, Dropping, Putting, Taking, Concluding, Changing}
 use Rattle.expiring.proofs.Moving.{lent, back, index-kept, moved-drop, moved-later}
 use Rattle.expiring.proofs.Limits.{limits-room}
 use Rattle.expiring.proofs.Calling.{inserting, removing}
@@ -120,6 +122,14 @@ module _ (ns : List ℕ) {b : Expiring} (e : b ≡ bookIn ns) where
 
 pub ready-in : (ns : List ℕ) {size : ℕ} → 12 ≤ length ns → limitsOf (capacityOf (bookIn ns)) (limitOf (bookIn ns)) size ≡ Done → Ready ns size
 ready-in ns h l = record { numbers = h; room = limits-room _ _ _ l }
+
+-- fewer than twelve numbers, and enough of them
+module _ {ns ws : List ℕ} {t : Tick} {c : Call} where
+  pub changing-refused : {r : Said} → length ns < 12 → r ≡ tooFewNumbers → Changing ns ws t c ns ws r
+  changing-refused few e = record { refused = λ _. (e, refl, refl); call = λ h. absurd (omega arith); stay = stay-same ns }
+
+  pub changing : {ns′ ws′ : List ℕ} {r : Said} → 12 ≤ length ns → Stay ns ns′ → Following ws (bookIn ns) t c ws′ (replyIn ns′ r) → Changing ns ws t c ns′ ws′ r
+  changing h s o = record { refused = λ few. absurd (omega arith); call = λ _. o; stay = s }
 
 -- a reply whose numbers were stored
 module _ {ws ws′ : List ℕ} {b : Expiring} {t : Tick} {c : Call} {a : Answer} {d : ℕ} where

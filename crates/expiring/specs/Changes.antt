@@ -4,13 +4,15 @@ use mathlib.Core.Path.{_≡_}
 use mathlib.Core.Bool.{true, false}
 use mathlib.Core.Logic.{_≢_}
 use mathlib.Core.List.{List}
-use Prim.Native.Nat.{ℕ, _≤_}
+use Prim.Native.Nat.{ℕ, _<_, _≤_}
 use lib.ListN.{length, getD}
 use Rattle.time.specs.declared.tick.Tick.{Tick}
+use Rattle.time.specs.declared.refusal.Refusal.the-variants.{TooFewWords}
 use Rattle.fast_lru.specs.declared.answers.Found.{Found}
 use Rattle.fast_lru.specs.Calls as lru
 use Rattle.expiration_index.specs.declared.answers.Deadline.{Deadline}
 use Rattle.expiring_model.specs.declared.answers.Answer.{Answer}
+use Rattle.expiring_model.specs.declared.answers.Answer.the-variants as answers
 use Rattle.expiring_model.specs.Model.{Call, drop}
 use Rattle.expiring.specs.declared.answers.Reply.{Reply}
 use Rattle.expiring.specs.declared.expiring.changes.Redated.{Redated}
@@ -71,6 +73,11 @@ pub record Concluding (ns : List ℕ) (x : Found) (old : Deadline) (t : Tick) (n
   pub reply : (d : ℕ) → replyIn ns′ (record { answer = r; discarded = d }) ≡ concluding (bookIn ns) x old t d
 
 -- ---- calls
+-- what is said where there are fewer than twelve numbers
+abbrev pub tooFewNumbers : Said
+tooFewNumbers = record { answer = answers.Refused TooFewWords; discarded = 0 }
+
 pub record Changing (ns ws : List ℕ) (t : Tick) (c : Call) (ns′ ws′ : List ℕ) (r : Said) : Type 0 where
+  pub refused : length ns < 12 → (r ≡ tooFewNumbers) × (ns′ ≡ ns) × (ws′ ≡ ws)
+  pub call : 12 ≤ length ns → Following ws (bookIn ns) t c ws′ (replyIn ns′ r)
   pub stay : Stay ns ns′
-  pub call : Following ws (bookIn ns) t c ws′ (replyIn ns′ r)

@@ -51,7 +51,7 @@ pub changed : (ns ns′ : List ℕ) {ws ws′ out out′ : List ℕ} {t : ℕ} {
 changed ns ns′ {s = s} h g o q = rw q (record {
   few = λ none. absurd (none (record { numbers = h; answer = g }));
   ran = λ _. refl;
-  reply = λ _. told {r = replyIn ns′ s} (o .call);
+  reply = λ _. told {r = replyIn ns′ s} (o .call h);
   size = o .stay .size;
   past = λ j l. o .stay .others j (λ e. omega arith) (λ e. omega arith) (λ e. omega arith) (λ e. omega arith) (λ e. omega arith) (λ e. omega arith) (λ e. omega arith) (λ e. omega arith);
 })

@@ -24,7 +24,7 @@ pub extern "C" fn hailtansy_get(
         return 0;
     }
     let said = expiring::get(numbers, words, Tick(tick), key);
-    tell::store_said(answer, said);
+    replay_expiring::store_said(answer, 0, said);
     1
 }
 
@@ -47,7 +47,7 @@ pub extern "C" fn hailtansy_insert(
         return 0;
     }
     let said = expiring::insert(numbers, words, Tick(tick), key, value);
-    tell::store_said(answer, said);
+    replay_expiring::store_said(answer, 0, said);
     1
 }
 
@@ -73,7 +73,7 @@ pub extern "C" fn hailtansy_insert_with_ttl(
     }
     let ttl = Duration::of(secs, nanos);
     let said = expiring::insert_with_ttl(numbers, words, Tick(tick), key, value, ttl);
-    tell::store_said(answer, said);
+    replay_expiring::store_said(answer, 0, said);
     1
 }
 
@@ -95,7 +95,7 @@ pub extern "C" fn hailtansy_remove(
         return 0;
     }
     let said = expiring::remove(numbers, words, Tick(tick), key);
-    tell::store_said(answer, said);
+    replay_expiring::store_said(answer, 0, said);
     1
 }
 
@@ -142,7 +142,7 @@ pub extern "C" fn hailtansy_set_ttl(
     }
     let ttl = Duration::of(secs, nanos);
     let said = expiring::set_ttl(numbers, words, Tick(tick), key, ttl);
-    tell::store_said(answer, said);
+    replay_expiring::store_said(answer, 0, said);
     1
 }
 

@@ -1,7 +1,6 @@
 // Calls that look, and change nothing.
 ghost use Rattle.expiring_model.specs.Model.{contains, peek, ttlStatus, recencyRank, liveLen, expirations, peekLru};
 ghost use Rattle.hailtansy.specs.Calls.{Looked};
-use crate::tell;
 use time::Tick;
 
 // Whether a key is stored and has not expired.
@@ -23,7 +22,7 @@ pub extern "C" fn hailtansy_contains(
     }
     let book = expiring::book_in(numbers);
     let reply = book.contains(words, Tick(tick), key);
-    tell::store_answer(answer, reply);
+    replay_expiring::store_answer(answer, 0, reply);
     1
 }
 
@@ -46,7 +45,7 @@ pub extern "C" fn hailtansy_peek(
     }
     let book = expiring::book_in(numbers);
     let reply = book.peek(words, Tick(tick), key);
-    tell::store_answer(answer, reply);
+    replay_expiring::store_answer(answer, 0, reply);
     1
 }
 
@@ -69,7 +68,7 @@ pub extern "C" fn hailtansy_ttl_status(
     }
     let book = expiring::book_in(numbers);
     let reply = book.ttl_status(words, Tick(tick), key);
-    tell::store_answer(answer, reply);
+    replay_expiring::store_answer(answer, 0, reply);
     1
 }
 
@@ -92,7 +91,7 @@ pub extern "C" fn hailtansy_recency_rank(
     }
     let book = expiring::book_in(numbers);
     let reply = book.recency_rank(words, Tick(tick), key);
-    tell::store_answer(answer, reply);
+    replay_expiring::store_answer(answer, 0, reply);
     1
 }
 
@@ -114,7 +113,7 @@ pub extern "C" fn hailtansy_live_len(
     }
     let book = expiring::book_in(numbers);
     let reply = book.live_len(words, Tick(tick));
-    tell::store_answer(answer, reply);
+    replay_expiring::store_answer(answer, 0, reply);
     1
 }
 
@@ -136,7 +135,7 @@ pub extern "C" fn hailtansy_expirations(
     }
     let book = expiring::book_in(numbers);
     let reply = book.expirations(words, Tick(tick));
-    tell::store_answer(answer, reply);
+    replay_expiring::store_answer(answer, 0, reply);
     1
 }
 
@@ -158,6 +157,6 @@ pub extern "C" fn hailtansy_peek_lru(
     }
     let book = expiring::book_in(numbers);
     let reply = book.peek_lru(words, Tick(tick));
-    tell::store_answer(answer, reply);
+    replay_expiring::store_answer(answer, 0, reply);
     1
 }

@@ -26,4 +26,4 @@ module _ {a : Asked} {o i : ℕ} {ns ws out out′ : List ℕ} {b : Expiring} {c
 
 -- a call on the numbers themselves
 pub changing : (ns ns′ : List ℕ) {a : Asked} {o i : ℕ} {ws ws′ out out′ : List ℕ} {c : Call} {s : Said} → 12 ≤ length ns → a .operation ≡ o → callOf o (a .key) (a .value) (a .ttl) ≡ c → o < words.changing → Changing ns ws (a .tick) c ns′ ws′ s → out′ ≡ withAnswer out i (ofAnswer (s .answer) (s .discarded)) → Turn a i ns ws out ns′ ws′ out′
-changing ns ns′ {a} {i = i} {ws = ws} {ws′} {out} {out′} {s = s} n is call h f told = subst (λ ms. Turn a i ns ws out ms ws′ out′) (sym (stay-changed ns ns′ n (f .stay))) (rw told (runs.changed {ws′ = ws′} {r = replyIn ns′ s} (rw is h) (rw is (rw call (f .call)))))
+changing ns ns′ {a} {i = i} {ws = ws} {ws′} {out} {out′} {s = s} n is call h f told = subst (λ ms. Turn a i ns ws out ms ws′ out′) (sym (stay-changed ns ns′ n (f .stay))) (rw told (runs.changed {ws′ = ws′} {r = replyIn ns′ s} (rw is h) (rw is (rw call (f .call n)))))

@@ -33,7 +33,7 @@
 // The numbers are the list's (capacity, len, refill_in), the index's (limit, len and refill_in of its map, entries, seq,
 // factor), 1 for a default lifetime and 0 for none, its ticks, and the expirations. Any number but 0 is read as 1, and the ticks
 // of none as 0. Operations 0 to 9, which may change the book, hand back its numbers but for capacity, limit and default lifetime,
-// which no call changes. The others look, and leave all numbers as they are. How answers stand in words is public, for functions
+// which no call changes. The others look, and leave all numbers as they are. How an answer is written is public, for functions
 // of a single call.
 mod answer;
 mod book;
@@ -42,7 +42,8 @@ mod list;
 mod look;
 mod tell;
 
-pub use answer::of_answer;
 pub use book::expiring_check;
 pub use book::expiring_open;
 pub use list::expiring_replay;
+pub use tell::store_answer;
+pub use tell::store_said;

@@ -6,7 +6,7 @@ ghost use Rattle.expiring_model.specs.Model.{set, drop, get, remove, insert, in
 ghost use Rattle.fast_lru.specs.Model.{without};
 ghost use Rattle.expiring.specs.Numbers.{bookIn, withExpiration};
 ghost use Rattle.expiring.specs.Calls.{SettingTtl};
-ghost use Rattle.expiring.specs.Changes.{Ready, Stay, replyIn, Setting, Dropping, Putting, Taking, Concluding, Changing};
+ghost use Rattle.expiring.specs.Changes.{Ready, Stay, replyIn, tooFewNumbers, Setting, Dropping, Putting, Taking, Concluding, Changing};
 ghost use Rattle.expiring.specs.Steps.{Moved, Inserting, Removing};
 use crate::answers::Reply;
 use crate::expiring::saturating_sum;
@@ -229,13 +229,21 @@ fn set_ttl_within(
     }
 }
 
-// ---- the calls
+// ---- the calls. Any numbers may be handed to them: fewer than twelve are refused as too few words.
+
+fn too_few_numbers() -> Said
+    ensures { λ r. ⌜ r ≡ tooFewNumbers ⌝ }
+{
+    answering(Answer::Refused(Refusal::TooFewWords))
+}
 
 // It moves the key to the front; an expired one it removes.
 pub fn get(numbers: &mut [u64], words: &mut [u64], tick: Tick, key: u64) -> Said
-    requires { ⌜ 12 ≤ length (now numbers) ⌝ }
     ensures { λ r. ⌜ Changing (now (numbers .entry)) (now (words .entry)) tick (get key) (now (numbers .exit)) (now (words .exit)) r ⌝ }
 {
+    if numbers.len() < 12 {
+        return too_few_numbers();
+    }
     let book = numbers::book_in(numbers);
     match book.limits(words.len()) {
         Outcome::Refused(why) => answering(Answer::Refused(why)),
@@ -255,9 +263,11 @@ pub fn get(numbers: &mut [u64], words: &mut [u64], tick: Tick, key: u64) -> Said
 }
 
 pub fn remove(numbers: &mut [u64], words: &mut [u64], tick: Tick, key: u64) -> Said
-    requires { ⌜ 12 ≤ length (now numbers) ⌝ }
     ensures { λ r. ⌜ Changing (now (numbers .entry)) (now (words .entry)) tick (remove key) (now (numbers .exit)) (now (words .exit)) r ⌝ }
 {
+    if numbers.len() < 12 {
+        return too_few_numbers();
+    }
     let book = numbers::book_in(numbers);
     match book.limits(words.len()) {
         Outcome::Refused(why) => answering(Answer::Refused(why)),
@@ -267,9 +277,11 @@ pub fn remove(numbers: &mut [u64], words: &mut [u64], tick: Tick, key: u64) -> S
 
 // With the default lifetime, or with none.
 pub fn insert(numbers: &mut [u64], words: &mut [u64], tick: Tick, key: u64, value: u64) -> Said
-    requires { ⌜ 12 ≤ length (now numbers) ⌝ }
     ensures { λ r. ⌜ Changing (now (numbers .entry)) (now (words .entry)) tick (insert key value) (now (numbers .exit)) (now (words .exit)) r ⌝ }
 {
+    if numbers.len() < 12 {
+        return too_few_numbers();
+    }
     let book = numbers::book_in(numbers);
     match book.limits(words.len()) {
         Outcome::Refused(why) => answering(Answer::Refused(why)),
@@ -294,9 +306,11 @@ pub fn insert_with_ttl(
     value: u64,
     ttl: Duration,
 ) -> Said
-    requires { ⌜ 12 ≤ length (now numbers) ⌝ }
     ensures { λ r. ⌜ Changing (now (numbers .entry)) (now (words .entry)) tick (insertWithTtl key value ttl) (now (numbers .exit)) (now (words .exit)) r ⌝ }
 {
+    if numbers.len() < 12 {
+        return too_few_numbers();
+    }
     let book = numbers::book_in(numbers);
     match book.limits(words.len()) {
         Outcome::Refused(why) => answering(Answer::Refused(why)),
@@ -314,9 +328,11 @@ pub fn insert_with_ttl(
 
 // 0 ticks remove the key.
 pub fn set_ttl(numbers: &mut [u64], words: &mut [u64], tick: Tick, key: u64, ttl: Duration) -> Said
-    requires { ⌜ 12 ≤ length (now numbers) ⌝ }
     ensures { λ r. ⌜ Changing (now (numbers .entry)) (now (words .entry)) tick (setTtl key ttl) (now (numbers .exit)) (now (words .exit)) r ⌝ }
 {
+    if numbers.len() < 12 {
+        return too_few_numbers();
+    }
     let book = numbers::book_in(numbers);
     match book.limits(words.len()) {
         Outcome::Refused(why) => answering(Answer::Refused(why)),

@@ -1,3 +1,5 @@
+use Prim.Native.Nat.{_≤_}
+use native.Mathlib.Omega.{arith}
 use lib.ListN.{length}
 use mathlib.Core.Path.{sym, ap, _∙_}
 use Rattle.time.specs.declared.duration.TtlTicks.{TtlTicks}
@@ -6,7 +8,7 @@ use Rattle.expiring.specs.Numbers.{bookIn}
 use Rattle.expiring.proofs.Lifetimes.{is-duration, no-duration}
 use Rattle.expiring.proofs.Acting.{follow-limits, follow-nanos}
 use Rattle.expiring.proofs.Storing.{stay-same}
-use Rattle.expiring.proofs.Changing.{limits-in, ready-in}
+use Rattle.expiring.proofs.Changing.{changing-refused, changing, limits-in, ready-in}
 use borrow.Author.Needs.{needs}
 use Rattle.expiring.proofs.expiring.changes.set_ttl.Statement.{statement}
 use Rattle.expiring.proofs.expiring.changes.set_ttl.Tie as tie
@@ -16,6 +18,8 @@ unfolding badNanos
 set-ttl-spec =
     tie.close
     (tie.spec
+    (λ c κs. search needs)
+    (λ c. changing-refused (omega (arith, c .before .if1 .taken)) (c .too-few-numbers .ensures))
     (λ c κs. search needs)
     (λ c κs. search needs)
     (λ c. search needs)
@@ -29,19 +33,23 @@ set-ttl-spec =
     let e = c .before .before .before .before .before .before in
     let l = e .before .before in
     let b = l .before in
-    let s = b .before .before .before in
+    let j = b .before .before in
+    let s = j .before .before in
     let ns = s .before .args .numbers .now in
+    let twelve : 12 ≤ length ns = omega (arith, j .if1 .left) in
     let limits = limits-in ns (b .book-in .ensures) (length (s .before .args .words .now)) (l .limits .ensures) (e .enum-told .given .1) in
-    ready-in ns (s .before .pre) limits)
+    ready-in ns twelve limits)
     (λ c. search needs)
     (λ c.
     let e = c .before .before in
     let l = e .before .before in
     let b = l .before in
-    let s = b .before .before .before in
+    let j = b .before .before in
+    let s = j .before .before in
     let ns = s .before .args .numbers .now in
+    let twelve : 12 ≤ length ns = omega (arith, j .if1 .left) in
     let limits = limits-in ns (b .book-in .ensures) (length (s .before .args .words .now)) (l .limits .ensures) (e .why .given .1) in
-    record { stay = stay-same ns; call = rw (c .answering .ensures) (follow-limits _ (bookIn ns) _ _ limits) })
+    changing twelve (stay-same ns) (rw (c .answering .ensures) (follow-limits _ (bookIn ns) _ _ limits)))
     (λ c. search needs)
     (λ c.
     let y = c .before .before in
@@ -49,16 +57,19 @@ set-ttl-spec =
     let e = d .before in
     let l = e .before .before in
     let b = l .before in
-    let s = b .before .before .before in
+    let j = b .before .before in
+    let s = j .before .before in
     let ns = s .before .args .numbers .now in
+    let twelve : 12 ≤ length ns = omega (arith, j .if1 .left) in
     let limits = limits-in ns (b .book-in .ensures) (length (s .before .args .words .now)) (l .limits .ensures) (e .enum-told .given .1) in
     let n = no-duration _ (sym (d .duration-to-ticks .ensures) ∙ y .why2 .given .1) in
-    record { stay = stay-same ns; call = rw (c .answering2 .ensures, n .1) (follow-nanos _ (bookIn ns) _ _ limits (n .0)) })
+    changing twelve (stay-same ns) (rw (c .answering2 .ensures, n .1) (follow-nanos _ (bookIn ns) _ _ limits (n .0))))
     (λ c. search needs)
     (λ c. search needs)
     (λ c.
     let r = c .before .before .before .before in
     let k = r .before .before .before .before in
     let d = k .before .before in
+    let j = d .before .before .before .before .before .before in
     let n = is-duration _ (sym (d .duration-to-ticks .ensures) ∙ k .ticks .given .1) in
-    record { stay = r .set-ttl-within .ensures .0; call = r .set-ttl-within .ensures .1 _ (n .0) (ap (λ (x : TtlTicks). x .0) (sym (n .1))) }))
+    changing (omega (arith, j .if1 .left)) (r .set-ttl-within .ensures .0) (r .set-ttl-within .ensures .1 _ (n .0) (ap (λ (x : TtlTicks). x .0) (sym (n .1))))))
