@@ -199,6 +199,7 @@ module _ {ws ws′ : List ℕ} {x : ExpirationIndex} where
   unfolding removed deadlines
   removing {k} {r} o e = record {
     call = call (o .call) (ap ofDeadline e ∙ refuses-deadline (r .answer)) (λ is. deadlines-removed k (heapOf ws x)) refl;
+    numbers = o .numbers;
     answer = λ is. e ∙ ap deadlineIn (o .answer (is .heap)) ∙ deadline-pairs k (heapOf ws x .held) (is .heap .valid .keys);
   }
 

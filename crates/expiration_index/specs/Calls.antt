@@ -16,7 +16,7 @@ use Rattle.time.specs.declared.refusal.Outcome.{Outcome}
 use Rattle.time.specs.declared.refusal.Outcome.the-variants.{Done, Refused}
 use Rattle.lazy_heap.specs.Words.{limitsOf, Kept}
 use Rattle.lazy_heap_model.specs.Model.{Heap, heapLen, surplus, opened, updated, updateDiscards, removed, peeked, popped, cleared, stale}
-use Rattle.lazy_heap.specs.Calls.{noHeap, nothing}
+use Rattle.lazy_heap.specs.Calls.{noHeap, nothing, withHeld}
 use Rattle.expiration_index.specs.declared.index.ExpirationIndex.{ExpirationIndex}
 use Rattle.expiration_index.specs.declared.answers.Deadline.{Deadline}
 use Rattle.expiration_index.specs.declared.answers.Deadline.the-variants as deadline
@@ -110,9 +110,10 @@ emptied l = []
 abbrev pub Clearing : List ℕ → ExpirationIndex → List ℕ → Cleared → Type 0
 Clearing ws x ws′ r = Call ws x (r .outcome) emptied cleared surplus ws′ (r .index) (r .discarded)
 
--- `remove`
+-- `remove`. Of the numbers it changes the count of deadlines held alone.
 pub record Removing (ws : List ℕ) (x : ExpirationIndex) (k : ℕ) (ws′ : List ℕ) (r : Changed) : Type 0 where
   pub call : Call ws x (ofDeadline (r .answer)) (without k) (removed k) nothing ws′ (r .index) (r .discarded)
+  pub numbers : r .index .heap ≡ withHeld (x .heap) (r .index .heap .scores .len)
   pub answer : IsIndex ws x → r .answer ≡ deadlineOf k (modelOf ws x)
 
 -- `next_deadline`

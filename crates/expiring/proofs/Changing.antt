@@ -24,14 +24,14 @@ use Rattle.expiring_model.specs.declared.lifetimes.DefaultTtl.{DefaultTtl}
 use Rattle.expiring_model.specs.Model.{Call, Change, drop}
 use Rattle.expiring.specs.Book.{limitsOf, capacityOf, limitOf, IsBook}
 use Rattle.expiring.specs.Calls.{Following}
-use Rattle.expiring.specs.Numbers.{lruIn, indexIn, bookIn, withLru, withDeadlines, withExpiration, withBook}
+use Rattle.expiring.specs.Numbers.{lruIn, indexIn, bookIn, withLru, withDeadlines, withHeld, withExpiration, withBook}
 use Rattle.expiring.specs.Steps.{ofFound, comeBy, withList, withIndex, storedOf, DeadlineOf, Moved, same, beyond, expiredIn, valueOf, unless, Acting, concluding, Inserting, replying}
 use Rattle.expiring.specs.Changes.{Ready, replyIn, Setting, Dropping, Putting, Taking, Concluding}
 use Rattle.expiring.proofs.Moving.{lent, back, index-kept, moved-drop, moved-later}
 use Rattle.expiring.proofs.Limits.{limits-room}
 use Rattle.expiring.proofs.Calling.{inserting, removing}
 use Rattle.expiring.proofs.Valuing.{refused-how, dating, set-held, removed-held, dropping}
-use Rattle.expiring.proofs.Storing.{lru-stored, deadlines-stored, book-stored, expiration-stored, stay-same, stay-lru, stay-deadlines, stay-expiration}
+use Rattle.expiring.proofs.Storing.{lru-stored, deadlines-stored, held-stored, book-stored, expiration-stored, stay-same, stay-lru, stay-deadlines, stay-held, stay-expiration}
 
 -- ---- the index's numbers, and then its part of the words
 module _ {ns ws : List ℕ} (ready : Ready ns (length ws)) (k : ℕ) {ys : List ℕ} {r : Changed} where
@@ -48,12 +48,12 @@ module _ {ns ws : List ℕ} (ready : Ready ns (length ws)) (k : ℕ) {ys : List 
         refused = λ e. let why = refused-how (r .answer) e in part ∙ ap (withIndex (bookIn ns)) (o .refused (why .0) (why .1) .0);
       }
 
-  pub dropping-of : calls.Removing (lent ws (bookIn ns)) (indexIn ns) k ys r → Dropping ns ws k (withDeadlines ns (r .index)) (back ws (bookIn ns) ys) (r .answer)
+  pub dropping-of : calls.Removing (lent ws (bookIn ns)) (indexIn ns) k ys r → Dropping ns ws k (withHeld ns (r .index)) (back ws (bookIn ns) ys) (r .answer)
   dropping-of o =
-      let part = deadlines-stored ns (r .index) (ready .numbers) (o .call .limit) in
+      let part = held-stored ns (r .index) (ready .numbers) (o .numbers) in
       let index = ap (λ (b : Expiring). b .index) part in
       record {
-        stay = stay-deadlines ns (r .index);
+        stay = stay-held ns (r .index);
         size = index-kept ws (bookIn ns) (ready .room) (r .index) (o .call .kept) .size;
         part = part ∙ ap (withIndex (bookIn ns)) (sym index);
         moved = rw index (moved-drop ws (bookIn ns) (ready .room) k (o .call));

@@ -1,16 +1,18 @@
 -- The numbers that are stored are read back, and no others change.
-use mathlib.Core.Path.{_≡_, refl, sym, _∙_}
+use mathlib.Core.Path.{_≡_, refl, sym, ap, _∙_}
 use mathlib.Core.List.{List, [], _∷_}
 use Prim.Native.Nat.{ℕ, suc, _≤_}
 use native.Mathlib.Omega.{arith}
 use lib.ListN.{length, getD, length-set}
 use lib.Seq.{getD-set-other}
 use Rattle.fast_lru.specs.declared.lru.FastLru.{FastLru}
+use Rattle.lazy_heap.specs.declared.heap.LazyMinHeap.{LazyMinHeap}
+use Rattle.lazy_heap.specs.Calls as heap
 use Rattle.expiration_index.specs.declared.index.ExpirationIndex.{ExpirationIndex}
 use Rattle.expiring_model.specs.declared.lifetimes.DefaultTtl.{DefaultTtl}
 use Rattle.expiring_model.specs.declared.lifetimes.DefaultTtl.the-variants as default
 use Rattle.expiring.specs.declared.expiring.Expiring.{Expiring}
-use Rattle.expiring.specs.Numbers.{defaultIn, bookIn, givenOf, ticksOf, withLru, withDeadlines, withExpiration, withChanged, withBook}
+use Rattle.expiring.specs.Numbers.{indexIn, defaultIn, bookIn, givenOf, ticksOf, withLru, withDeadlines, withHeld, withExpiration, withChanged, withBook}
 use Rattle.expiring.specs.Changes.{Stay}
 use Rattle.expiring.specs.Steps.{withList, withIndex, withExpired}
 
@@ -48,6 +50,14 @@ deadlines-stored ns x h c = go (as-twelve ns h) c
     go : {ns : List ℕ} → Twelve ns → x .heap .scores .capacity ≡ getD ns 3 0 → bookIn (withDeadlines ns x) ≡ withIndex (bookIn ns) x
     go (twelve ns) c = rw (sym c) refl
 
+-- an index that differs from the one that the numbers tell in the count of deadlines alone
+pub held-stored : (ns : List ℕ) (x : ExpirationIndex) → 12 ≤ length ns → x .heap ≡ heap.withHeld (indexIn ns .heap) (x .heap .scores .len) → bookIn (withHeld ns x) ≡ withIndex (bookIn ns) x
+unfolding withHeld
+held-stored ns x h e = go (as-twelve ns h) e
+  where
+    go : {ns : List ℕ} → Twelve ns → x .heap ≡ heap.withHeld (indexIn ns .heap) (x .heap .scores .len) → bookIn (withHeld ns x) ≡ withIndex (bookIn ns) x
+    go {ns} (twelve _) e = ap (λ (y : LazyMinHeap). withIndex (bookIn ns) (record { heap = y })) (sym e)
+
 pub expiration-stored : (ns : List ℕ) → 12 ≤ length ns → bookIn (withExpiration ns) ≡ withExpired (bookIn ns) 1
 unfolding withExpiration
 expiration-stored ns h = go (as-twelve ns h)
@@ -80,6 +90,10 @@ stay-lru ns l = record { size = simp length-set; others = λ j a b c d e f g h. 
 pub stay-deadlines : (ns : List ℕ) (x : ExpirationIndex) → Stay ns (withDeadlines ns x)
 unfolding withDeadlines
 stay-deadlines ns x = record { size = simp length-set; others = λ j a b c d e f g h. simp getD-set-other }
+
+pub stay-held : (ns : List ℕ) (x : ExpirationIndex) → Stay ns (withHeld ns x)
+unfolding withHeld
+stay-held ns x = record { size = simp length-set; others = λ j a b c d e f g h. simp getD-set-other }
 
 pub stay-expiration : (ns : List ℕ) → Stay ns (withExpiration ns)
 unfolding withExpiration

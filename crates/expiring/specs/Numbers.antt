@@ -40,6 +40,10 @@ withLru ns l = set (set ns 1 (l .map .len)) 2 (l .map .refill_in)
 unfoldable pub withDeadlines : List ℕ → ExpirationIndex → List ℕ
 withDeadlines ns x = set (set (set (set (set ns 4 (x .heap .scores .len)) 5 (x .heap .scores .refill_in)) 6 (x .heap .entries)) 7 (x .heap .seq)) 8 (x .heap .factor)
 
+-- what a removal changes of the index's numbers: how many deadlines are held
+unfoldable pub withHeld : List ℕ → ExpirationIndex → List ℕ
+withHeld ns x = set ns 4 (x .heap .scores .len)
+
 -- one expiration more; the count stops at u64::MAX
 unfoldable pub withExpiration : List ℕ → List ℕ
 withExpiration ns = set ns 11 (min (getD ns 11 0 + 1) (2 ^ 64 - 1))

@@ -3,7 +3,7 @@
 ghost use mathlib.Core.Path.{_≡_};
 ghost use Prim.Native.Nat.{_≤_};
 ghost use lib.ListN.{length};
-ghost use Rattle.expiring.specs.Numbers.{lruIn, indexIn, defaultIn, bookIn, givenOf, ticksOf, withLru, withDeadlines, withChanged, withBook};
+ghost use Rattle.expiring.specs.Numbers.{lruIn, indexIn, defaultIn, bookIn, givenOf, ticksOf, withLru, withDeadlines, withHeld, withChanged, withBook};
 use crate::expiring::Expiring;
 use expiration_index::ExpirationIndex;
 use expiring_model::DefaultTtl;
@@ -107,6 +107,14 @@ pub fn store_index(numbers: &mut [u64], index: ExpirationIndex)
     numbers[6] = heap.entries as u64;
     numbers[7] = heap.seq;
     numbers[8] = heap.factor as u64;
+}
+
+// How many deadlines are held: all that a removal changes of the index's numbers.
+pub fn store_held(numbers: &mut [u64], index: ExpirationIndex)
+    requires { ⌜ 12 ≤ length (now numbers) ⌝ }
+    ensures { λ _. ⌜ now (numbers .exit) ≡ withHeld (now (numbers .entry)) index ⌝ }
+{
+    numbers[4] = index.heap.scores.len as u64;
 }
 
 // All that a call may change: neither the limits nor the default lifetime. A number that is stored makes the next call wait for it.

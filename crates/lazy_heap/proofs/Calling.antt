@@ -30,7 +30,7 @@ use Rattle.lazy_heap_model.specs.Model.{Heap, atLeastOne, surplus, tooMany, hel
 use Rattle.lazy_heap.specs.Valid.{Valid}
 use Rattle.lazy_heap.specs.Heap.{modelOf, Parts, IsHeap}
 use Rattle.lazy_heap.specs.Steps.{Rebuilding, Renumbering, Trimming}
-use Rattle.lazy_heap.specs.Calls.{Call, Opening, Removing, noHeap, nothing, maybeDiscards}
+use Rattle.lazy_heap.specs.Calls.{Call, Opening, withHeld, Removing, noHeap, nothing, maybeDiscards}
 use Rattle.lazy_heap.proofs.Parts.{part-same}
 use Rattle.lazy_heap.proofs.Valid.{valid-opened, valid-rebuilt, valid-renumbered, valid-removed, valid-cleared, valid-peeked, live-length, numbered-length, from-length}
 use Rattle.lazy_heap.proofs.Stepping.{same-heap, same-capacity, surplus-is, kept-same, rebuilt-model}
@@ -288,8 +288,9 @@ module _ {ws ws′ : List ℕ} (h : LazyMinHeap) (k : ℕ) {r : Removed} (o : sc
   pub remove-call : {told : Outcome} → told ≡ Done → limitsOf (h .scores .capacity) (length ws) ≡ Done → Call ws h (limitsOf (h .scores .capacity) (length ws)) told (removed k) nothing ws′ without-key 0
   remove-call u t = call-done u t (λ is. heap-again (remove-parts (is .parts)) (remove-model (is .parts)) (fair-removed k (fair-heap is))) (λ is. remove-model (is .parts)) (λ is. refl) (o .capacity) remove-kept
 
-  pub removing : {a : Score} → a ≡ heldScore (r .answer) → Room (length ws) (h .scores .capacity) → Removing ws h k ws′ (record { heap = without-key; answer = a; discarded = 0 })
-  removing e room = record {
+  pub removing : {a : Score} → a ≡ heldScore (r .answer) → without-key ≡ withHeld h (r .map .len) → Room (length ws) (h .scores .capacity) → Removing ws h k ws′ (record { heap = without-key; answer = a; discarded = 0 })
+  removing e n room = record {
     call = remove-call (ap ofScore e ∙ held-accepted (r .answer)) (room-limits room);
+    numbers = n;
     answer = λ is. e ∙ ap heldScore (o .answer (is .parts .scores));
   }

@@ -101,9 +101,14 @@ pub record Scoring (ws : List ℕ) (h : LazyMinHeap) (k : ℕ) (r : Score) : Typ
   pub outcome : ofScore r ≡ limitsIn ws h
   pub answer : IsHeap ws h → r ≡ heldScore (lookup k (modelOf ws h .held))
 
--- `remove`
+-- the numbers with another count of keys held
+abbrev pub withHeld : LazyMinHeap → ℕ → LazyMinHeap
+withHeld h n = record { scores = record { capacity = h .scores .capacity; len = n; refill_in = h .scores .refill_in }; entries = h .entries; seq = h .seq; factor = h .factor }
+
+-- `remove`. Of the numbers it changes the count of keys held alone, so that a caller need not store the others.
 pub record Removing (ws : List ℕ) (h : LazyMinHeap) (k : ℕ) (ws′ : List ℕ) (r : Updated) : Type 0 where
   pub call : Call ws h (limitsIn ws h) (ofScore (r .answer)) (removed k) nothing ws′ (r .heap) (r .discarded)
+  pub numbers : r .heap ≡ withHeld h (r .heap .scores .len)
   pub answer : IsHeap ws h → r .answer ≡ heldScore (lookup k (modelOf ws h .held))
 
 -- `peek_best`

@@ -87,7 +87,7 @@ fn drop_deadline(numbers: &mut [u64], words: &mut [u64], key: u64) -> Deadline
     let changed = book.index.remove(&mut words[start..], key);
     let index = changed.index;
     let old = changed.answer;
-    numbers::store_index(numbers, index);
+    numbers::store_held(numbers, index);
     old
 }
 

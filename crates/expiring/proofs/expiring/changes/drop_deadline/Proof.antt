@@ -23,4 +23,4 @@ drop-deadline-spec =
     let s = c .before .before in
     let i = s .before .before .before .before .before in
     let b = i .before .before .before in
-    rw (s .store-index .ensures) (dropping-of (b .before .before .before .before .pre) _ (rw (b .book-in .ensures) at (i .remove .ensures)))))
+    rw (s .store-held .ensures) (dropping-of (b .before .before .before .before .pre) _ (rw (b .book-in .ensures) at (i .remove .ensures)))))

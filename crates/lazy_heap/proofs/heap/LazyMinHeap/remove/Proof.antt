@@ -1,4 +1,4 @@
-use mathlib.Core.Path.{sym, _∙_}
+use mathlib.Core.Path.{refl, sym, _∙_}
 use borrow.Author.Needs.{needs}
 use Rattle.lazy_heap.proofs.Calling.{no-heap, limits-room, call-refused}
 use Rattle.lazy_heap.proofs.heap.LazyMinHeap.remove.Statement.{statement}
@@ -12,6 +12,6 @@ remove-spec =
     (λ c. search needs)
     (λ c. search needs)
     (λ c κs. limits-room _ _ (sym (c .before .before .before .limits .ensures) ∙ c .before .enum-told .given .1))
-    (λ c. let e = sym (c .before .before .before .limits .ensures) ∙ c .before .why .given .1 in record { call = call-refused e; answer = λ is. absurd (no-heap e is) })
+    (λ c. let e = sym (c .before .before .before .limits .ensures) ∙ c .before .why .given .1 in record { call = call-refused e; numbers = refl; answer = λ is. absurd (no-heap e is) })
     (λ c. search needs)
     (λ c. c .before .before .remove-within .ensures))
