@@ -5,8 +5,9 @@ use mathlib.Core.List.{List, [], _∷_, map}
 use Prim.Native.Nat.{ℕ}
 use native.Mathlib.Omega.{arith}
 use lib.ListN.{length}
+use Rattle.limits.specs.Limits.{mapFits as fit}
 use Rattle.linked_hash_map.specs.declared.map.LinkedHashMap.{LinkedHashMap}
-use Rattle.linked_hash_map.specs.Words.{fit, recordAt, emptied}
+use Rattle.linked_hash_map.specs.Words.{recordAt, emptied}
 use Rattle.linked_hash_map.specs.Numbers.{emptyMap}
 use Rattle.linked_hash_map.specs.Model.{Model}
 use Rattle.linked_hash_map.specs.Map.{IsMap, modelOf}
