@@ -4,7 +4,7 @@ ghost use Rattle.limits.specs.Limits.{mapFits, listLimits, heapLimits, h
 use time::Outcome;
 use time::Refusal;
 
-// The map numbers no refusals: it is the part of a list, a heap or a book, which refuse first.
+// A map's refusals have no numbers: it is part of a list or of a heap, which refuse first.
 pub fn map(capacity: usize, size: usize) -> bool
     ensures { λ r. ⌜ r ≡ mapFits capacity size ⌝ }
 {
