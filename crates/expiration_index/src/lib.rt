@@ -6,8 +6,8 @@
 //
 // `set_deadline` and `pop_expired` take logarithmic time (and more once in a while, for the entries that they discard), and so
 // does `next_deadline` for each entry that it discards. `expired_count` walks the keys held, `check` those and the entries;
-// opening goes with the limit, and `clear` with the keys held, or with the limit where they are more than an eighth of it.
-// The rest is constant.
+// opening goes with the limit, and `clear` with the keys held, or with the cells that it wipes, and so with the limit, where
+// they are more than a thirty-second of it. The rest is constant.
 //
 // An index for d keys, 1 to 4,096, takes 64 + 32 d words, and leaves those beyond alone. Any words and any numbers may be
 // handed to any call. A refusal changes nothing; on words and numbers that are no index, only they may change.

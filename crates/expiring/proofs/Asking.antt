@@ -31,7 +31,8 @@ use Rattle.expiring.specs.declared.expiring.Expiring.{Expiring}
 use Rattle.expiring_model.specs.Model.{hasCome}
 use Rattle.expiring.specs.Book.{Room, start, capacityOf, limitOf, IsBook, modelOf}
 use Rattle.expiring.specs.Calls.{Checking, Counting, DeadlinesHeld, HeapLength}
-use Rattle.expiring.specs.Steps.{comeBy, storedOf, deadlinesOf, DeadlineOf, Expired, Stored, StoredCount, ExpiredCount}
+use Rattle.expiring_answers.specs.Answers.{comeBy}
+use Rattle.expiring.specs.Steps.{storedOf, deadlinesOf, DeadlineOf, Expired, Stored, StoredCount, ExpiredCount}
 use Rattle.expiring.proofs.Limits.{room-limits, no-book}
 use Rattle.expiring.proofs.Moving.{lent, lent-is, lent-index}
 

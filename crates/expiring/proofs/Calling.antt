@@ -15,7 +15,8 @@ use Rattle.expiring_model.specs.declared.answers.Answer.the-variants as answers
 use Rattle.expiring.specs.declared.expiring.Expiring.{Expiring}
 use Rattle.expiring_model.specs.Model.{Change, keep, set, valueIn}
 use Rattle.expiring.specs.Book.{IsBook}
-use Rattle.expiring.specs.Steps.{ofFound, comeBy, withList, withIndex, storedOf, DeadlineOf, Moved, same, Dating, beyond, expiredIn, valueOf, unless, Acting, concluding, Inserting}
+use Rattle.expiring_answers.specs.Answers.{ofFound, comeBy}
+use Rattle.expiring.specs.Steps.{withList, withIndex, storedOf, DeadlineOf, Moved, same, Dating, beyond, expiredIn, valueOf, unless, Acting, concluding, Inserting}
 use Rattle.expiring.proofs.Asking.{expired-by}
 use Rattle.expiring.proofs.Moving.{moved-later}
 use Rattle.expiring.proofs.Valuing.{not-true, found-accepted, value-of, dropping, putting-in}

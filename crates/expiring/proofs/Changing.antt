@@ -26,7 +26,8 @@ use Rattle.expiring_model.specs.Model.{Call, Change, drop}
 use Rattle.expiring.specs.Book.{capacityOf, limitOf, IsBook}
 use Rattle.expiring.specs.Calls.{Following}
 use Rattle.expiring.specs.Numbers.{lruIn, indexIn, bookIn, withLru, withDeadlines, withHeld, withExpiration, withBook}
-use Rattle.expiring.specs.Steps.{ofFound, comeBy, withList, withIndex, storedOf, DeadlineOf, Moved, same, beyond, expiredIn, valueOf, unless, Acting, concluding, Inserting, replying}
+use Rattle.expiring_answers.specs.Answers.{ofFound, comeBy}
+use Rattle.expiring.specs.Steps.{withList, withIndex, storedOf, DeadlineOf, Moved, same, beyond, expiredIn, valueOf, unless, Acting, concluding, Inserting, replying}
 use Rattle.expiring.specs.Changes.{Ready, replyIn, Setting, Dropping, Putting, Taking, Concluding}
 use Rattle.expiring.proofs.Moving.{lent, back, index-kept, moved-drop, moved-later}
 use Rattle.expiring.proofs.Limits.{limits-room}

@@ -48,7 +48,8 @@ use Rattle.expiring_model.specs.declared.lifetimes.DefaultTtl.the-variants as d
 use Rattle.expiring_model.specs.Model.{Call, contains, peek, get, insert, remove, clear, insertWithTtl, ttlStatus, setTtl, liveLen, expirations, nextDeadline, touch, recencyRank, popLru, peekLru, keep, set, drop, dropAll, isExpired, changeOf, storedAfter, expiredBy, answered, badNanos, valueUnlessExpired, itemIn, dueIn, rankIn, tell, statusIn, livesAt}
 use Rattle.expiring.specs.Book.{Room, capacityOf, limitOf, IsBook, modelOf}
 use Rattle.expiring.specs.Calls.{Following}
-use Rattle.expiring.specs.Steps.{ofFound, ofTold, ofOldest, ofDue, statusOf, withList, withIndex, withExpired, replying, storedOf, deadlinesOf, DeadlineOf, Expired, Stored, StoredCount, ExpiredCount, Moved, same, Dating, Inserting, Removing}
+use Rattle.expiring_answers.specs.Answers.{ofFound, ofTold, ofOldest, ofDue, statusOf}
+use Rattle.expiring.specs.Steps.{withList, withIndex, withExpired, replying, storedOf, deadlinesOf, DeadlineOf, Expired, Stored, StoredCount, ExpiredCount, Moved, same, Dating, Inserting, Removing}
 use Rattle.expiring.proofs.Moving.{moved-list, moved-then, moved-same, moved-look, lent, back, lent-is, lent-index}
 use Rattle.expiring.proofs.Acting.{Accepted, no-refusal, follow, acting, acting-expired, acting-full}
 use Rattle.expiring.proofs.Valuing.{found-accepted, value-of}

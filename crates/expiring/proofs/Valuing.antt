@@ -30,7 +30,8 @@ use Rattle.expiring.specs.declared.expiring.Expiring.{Expiring}
 use Rattle.expiring_model.specs.Model.{keep, set, valueIn, pairsAfter}
 use Rattle.expiring_model.specs.Discards.{discards, heapAfter}
 use Rattle.expiring.specs.Book.{start, Room, capacityOf, limitOf, IsBook, heapOf}
-use Rattle.expiring.specs.Steps.{ofFound, isAccepted, withList, withIndex, deadlinesOf, DeadlineOf, Moved, Dating}
+use Rattle.expiring_answers.specs.Answers.{ofFound, isAccepted}
+use Rattle.expiring.specs.Steps.{withList, withIndex, deadlinesOf, DeadlineOf, Moved, Dating}
 use Rattle.expiring.proofs.Moving.{moved-list, lent, back, lent-is, lent-index, moved-index}
 use Rattle.expiring.proofs.Acting.{Accepted, no-refusal}
 

@@ -18,7 +18,8 @@ use Rattle.expiring.specs.declared.expiring.changes.Said.{Said}
 use Rattle.expiring.specs.Book.{Room, capacityOf, limitOf}
 use Rattle.expiring.specs.Calls.{Following}
 use Rattle.expiring.specs.Numbers.{lruIn, indexIn, bookIn}
-use Rattle.expiring.specs.Steps.{isAccepted, withList, withIndex, DeadlineOf, Moved, same, Dating, concluding}
+use Rattle.expiring_answers.specs.Answers.{isAccepted}
+use Rattle.expiring.specs.Steps.{withList, withIndex, DeadlineOf, Moved, same, Dating, concluding}
 
 -- twelve numbers, and words with room for the book that they tell
 pub record Ready (ns : List ℕ) (size : ℕ) : Type 0 where

@@ -12,29 +12,21 @@ use Rattle.time.specs.declared.refusal.Refusal.{Refusal}
 use Rattle.time.specs.declared.refusal.Refusal.the-variants.{KeyLimitReached}
 use Rattle.time.specs.declared.refusal.Outcome.the-variants.{Done}
 use Rattle.time.specs.Duration.{ticksOf}
-use Rattle.time.specs.Deadline.{isExpiredAt, remainingAt}
 use Rattle.lazy_heap_model.specs.Model.{opened, stale}
 use Rattle.fast_lru.specs.declared.lru.FastLru.{FastLru}
 use Rattle.fast_lru.specs.declared.answers.Found.{Found}
-use Rattle.fast_lru.specs.declared.answers.Found.the-variants as found
-use Rattle.fast_lru.specs.declared.answers.Told.{Told}
-use Rattle.fast_lru.specs.declared.answers.Told.the-variants as told
-use Rattle.fast_lru.specs.declared.answers.Oldest.{Oldest}
-use Rattle.fast_lru.specs.declared.answers.Oldest.the-variants as oldest
 use Rattle.fast_lru.specs.Model.{Items, inserted}
 use Rattle.fast_lru.specs.Model as list
 use Rattle.fast_lru.specs.Lru as lru
 use Rattle.expiration_index.specs.declared.index.ExpirationIndex.{ExpirationIndex}
 use Rattle.expiration_index.specs.declared.answers.Deadline.{Deadline}
-use Rattle.expiration_index.specs.declared.answers.Deadline.the-variants as deadline
-use Rattle.expiration_index.specs.declared.answers.Due.{Due}
-use Rattle.expiration_index.specs.declared.answers.Due.the-variants as due
 use Rattle.expiration_index.specs.Model.{Pair, Pairs, isFull, expiredCount, deadlineOf, nextExpired}
 use Rattle.expiration_index.specs.Model as pairs
 use Rattle.expiration_index.specs.Index as index
 use Rattle.expiration_index.specs.Calls.{poppedExpired}
 use Rattle.expiring_model.specs.declared.answers.Answer.{Answer}
 use Rattle.expiring_model.specs.declared.answers.Answer.the-variants as answers
+use Rattle.expiring_answers.specs.Answers.{ofFound, comeBy}
 use Rattle.expiring.specs.declared.answers.Reply.{Reply}
 use Rattle.expiring.specs.declared.expiring.Expiring.{Expiring}
 use Rattle.expiring.specs.declared.expiring.Opened as expiring
@@ -48,42 +40,6 @@ use Rattle.expiring_model.specs.declared.lifetimes.DefaultDuration.the-variants
 use Rattle.expiring_model.specs.Model.{Change, keep, set, drop, dropExpired, dropAll, look, fresh, pairsAfter, hasCome, livesAt, valueIn}
 use Rattle.expiring_model.specs.Discards.{discards, heapAfter}
 use Rattle.expiring.specs.Book.{capacityOf, limitOf, rest, IsBook, heapOf, modelOf, Kept}
-
--- ---- the answers of the layers below, where they refuse nothing
-abbrev pub ofFound : Found → Answer
-ofFound (found.Value v) = answers.Value v
-ofFound found.Nothing = answers.Nothing
-ofFound (found.Refused why) = answers.Nothing
-
-abbrev pub ofTold : Told → Answer
-ofTold told.Yes = answers.Yes
-ofTold told.No = answers.No
-ofTold (told.Refused why) = answers.No
-
-abbrev pub ofOldest : Oldest → Answer
-ofOldest (oldest.Item k v) = answers.Item k v
-ofOldest oldest.Nothing = answers.Nothing
-ofOldest (oldest.Refused why) = answers.Nothing
-
-abbrev pub ofDue : Due → Answer
-ofDue (due.Pair k d) = answers.Due k d
-ofDue due.Nothing = answers.Nothing
-ofDue (due.Refused why) = answers.Nothing
-
-abbrev pub statusOf : Deadline → Tick → Answer
-statusOf (deadline.At d) t = livesAt d (remainingAt d t)
-statusOf deadline.Nothing t = answers.Immortal
-statusOf (deadline.Refused why) t = answers.Immortal
-
-abbrev pub comeBy : Deadline → Tick → Bool
-comeBy (deadline.At d) t = isExpiredAt d t
-comeBy deadline.Nothing t = false
-comeBy (deadline.Refused why) t = false
-
-abbrev pub isAccepted : Deadline → Bool
-isAccepted (deadline.At d) = true
-isAccepted deadline.Nothing = true
-isAccepted (deadline.Refused why) = false
 
 -- ---- an opening
 abbrev pub byTicks : Ticked → Defaulted

@@ -4,10 +4,10 @@ ghost use lib.ListN.{length};
 ghost use Rattle.time.specs.declared.refusal.Outcome.the-variants.{Refused};
 ghost use Rattle.limits.specs.Limits.{bookLimits};
 ghost use Rattle.expiring_model.specs.declared.answers.Answer.the-variants as answers;
-ghost use Rattle.expiring_model.specs.Model.{contains, peek, get, insert, remove, clear, insertWithTtl, ttlStatus, setTtl, purgeExpired, liveLen, expirations, nextDeadline, touch, recencyRank, popLru, peekLru, dropAll, rankIn};
+ghost use Rattle.expiring_model.specs.Model.{contains, peek, get, insert, remove, clear, insertWithTtl, ttlStatus, setTtl, purgeExpired, liveLen, expirations, nextDeadline, touch, recencyRank, popLru, peekLru, dropAll};
 ghost use Rattle.expiring.specs.Book.{Room, capacityOf, limitOf};
 ghost use Rattle.expiring.specs.Calls.{noBook, Following, Opening, Checking, DeadlinesHeld, HeapLength};
-ghost use Rattle.expiring.specs.Steps.{ofFound, ofTold, ofOldest, ofDue, statusOf, isAccepted, comeBy, defaultedBy, saturatingSum, withList, withIndex, withExpired, replying, purging, DeadlineOf, Expired, Stored, StoredCount, ExpiredCount, Moved, same, PoppingExpired};
+ghost use Rattle.expiring.specs.Steps.{defaultedBy, saturatingSum, withList, withIndex, withExpired, replying, purging, DeadlineOf, Expired, Stored, StoredCount, ExpiredCount, Moved, same, PoppingExpired};
 ghost use Rattle.expiring.specs.Steps as steps;
 
 pub mod changes;
@@ -17,21 +17,24 @@ use crate::numbers;
 use expiration_index::Deadline;
 use expiration_index::Due;
 use expiration_index::ExpirationIndex;
+use expiring_answers::has_come;
+use expiring_answers::of_due;
+use expiring_answers::of_found;
+use expiring_answers::of_oldest;
+use expiring_answers::of_rank;
+use expiring_answers::of_told;
+use expiring_answers::status_of;
 use expiring_model::Answer;
 use expiring_model::DefaultDuration;
 use expiring_model::DefaultTtl;
 use fast_lru::Count;
 use fast_lru::FastLru;
-use fast_lru::Found;
-use fast_lru::Oldest;
-use fast_lru::Rank;
 use fast_lru::Told;
 use lazy_heap::LazyMinHeap;
 use linked_hash_map::LinkedHashMap;
 use time::Duration;
 use time::Outcome;
 use time::Refusal;
-use time::Remaining;
 use time::Tick;
 use time::Ticked;
 use time::TtlTicks;
@@ -62,98 +65,10 @@ struct Popped {
     stale: u64,
 }
 
-// ---- the answers of the layers below. No book's list or index refuses a call that the book has admitted.
-
-fn of_found(found: Found) -> Answer
-    ensures { λ r. ⌜ r ≡ ofFound found ⌝ }
-{
-    match found {
-        Found::Value(v) => Answer::Value(v),
-        Found::Nothing => Answer::Nothing,
-        Found::Refused(_) => Answer::Nothing,
-    }
-}
-
-fn of_told(told: Told) -> Answer
-    ensures { λ r. ⌜ r ≡ ofTold told ⌝ }
-{
-    match told {
-        Told::Yes => Answer::Yes,
-        Told::No => Answer::No,
-        Told::Refused(_) => Answer::No,
-    }
-}
-
-fn of_oldest(oldest: Oldest) -> Answer
-    ensures { λ r. ⌜ r ≡ ofOldest oldest ⌝ }
-{
-    match oldest {
-        Oldest::Item(key, value) => Answer::Item(key, value),
-        Oldest::Nothing => Answer::Nothing,
-        Oldest::Refused(_) => Answer::Nothing,
-    }
-}
-
-fn of_rank(rank: Rank) -> Answer
-    ensures { λ r. ⌜ r ≡ rankIn rank ⌝ }
-{
-    match rank {
-        Rank::At(n) => Answer::Rank(n as u64),
-        Rank::Nothing => Answer::Nothing,
-        Rank::Refused(_) => Answer::Nothing,
-    }
-}
-
-fn of_due(due: Due) -> Answer
-    ensures { λ r. ⌜ r ≡ ofDue due ⌝ }
-{
-    match due {
-        Due::Pair(key, deadline) => Answer::Due(key, deadline),
-        Due::Nothing => Answer::Nothing,
-        Due::Refused(_) => Answer::Nothing,
-    }
-}
-
-// Whether an index took a deadline.
-fn is_accepted(answer: Deadline) -> bool
-    ensures { λ r. ⌜ r ≡ isAccepted answer ⌝ }
-{
-    match answer {
-        Deadline::At(_) => true,
-        Deadline::Nothing => true,
-        Deadline::Refused(_) => false,
-    }
-}
-
-// Whether a key's deadline, if it has one, has come.
-fn has_come(deadline: Deadline, tick: Tick) -> bool
-    ensures { λ r. ⌜ r ≡ comeBy deadline tick ⌝ }
-{
-    match deadline {
-        Deadline::At(d) => d.is_expired_at(tick),
-        Deadline::Nothing => false,
-        Deadline::Refused(_) => false,
-    }
-}
-
 fn saturating_sum(a: u64, b: u64) -> u64
     ensures { λ r. ⌜ r ≡ saturatingSum a b ⌝ }
 {
     if a <= u64::MAX - b { a + b } else { u64::MAX }
-}
-
-// The answer of `ttl_status` for a stored key.
-fn status_of(deadline: Deadline, tick: Tick) -> Answer
-    ensures { λ r. ⌜ r ≡ statusOf deadline tick ⌝ }
-{
-    match deadline {
-        Deadline::At(d) => match d.remaining_at(tick) {
-            Remaining::Expired => Answer::Expired,
-            Remaining::Live(ttl) => Answer::Live(ttl, d),
-        },
-        Deadline::Nothing => Answer::Immortal,
-        Deadline::Refused(_) => Answer::Immortal,
-    }
 }
 
 // A default lifetime in ticks.

@@ -7,15 +7,15 @@ use Prim.Native.Nat.{ℕ, zero, suc, _+_, _<_}
 use native.Mathlib.Omega.{arith}
 use lib.Dec.{ltb}
 use lib.ListN.{length, getD}
-use Rattle.rings.specs.Ring.{next, joined, attached, moved}
-use Rattle.rings.proofs.Links.{length-attached, length-joined, length-moved, past-attached, past-joined, past-moved}
+use Rattle.rings.specs.Ring.{next, joined, attached, moved, spliced}
+use Rattle.rings.proofs.Links.{length-attached, length-joined, length-moved, length-spliced, past-attached, past-joined, past-moved, past-spliced}
 use Rattle.cells.specs.Cells.{cellsFrom, cellWords, cellCount, setCell, erased, zeroed}
 use Rattle.cells.specs.Probe.{entered}
 use Rattle.cells.proofs.Packing.{Outside, set-length, set-outside}
 use Rattle.cells.proofs.Clearing.{zero-length}
 use Rattle.cells.proofs.Indexing.{entered-length, entered-outside, erased-length, erased-outside, zeroed-outside}
 use Rattle.linked_hash_map.specs.declared.map.Record.{Record}
-use Rattle.linked_hash_map.specs.Words.{Kept, written, replaced, takenOut, putIn, filled, emptied, enteredFrom, refilled}
+use Rattle.linked_hash_map.specs.Words.{Kept, written, replaced, takenOut, putIn, filled, emptied, wiped, enteredFrom, refilled}
 use Rattle.linked_hash_map.proofs.Frames.{length-written, written-other}
 
 pub kept-same : (n : ℕ) (ws : List ℕ) → Kept n ws ws
@@ -82,6 +82,12 @@ kept-emptied n ws =
     (kept-then (kept-joined n (joined (n + 2) ws n n) (n + 1) (n + 1))
     (kept-then (kept-filled n 0 n (joined (n + 2) (joined (n + 2) ws n n) (n + 1) (n + 1)))
     (kept-zeroed n (filled (joined (n + 2) (joined (n + 2) ws n n) (n + 1) (n + 1)) n 0 n))))
+
+pub kept-wiped : (n : ℕ) (ws : List ℕ) → Kept n ws (wiped ws n)
+unfolding wiped
+kept-wiped n ws = kept-then
+    (record { size = length-spliced (n + 2) ws n (n + 1); past = λ j h. past-spliced (n + 2) ws n (n + 1) j (omega arith) })
+    (kept-zeroed n (spliced (n + 2) ws n (n + 1)))
 
 -- entering records anew changes cells alone
 from-outside : (n k x j : ℕ) (ws : List ℕ) → Outside n j → getD (enteredFrom ws n k x) j 0 ≡ getD ws j 0

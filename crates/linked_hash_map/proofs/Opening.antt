@@ -1,24 +1,24 @@
--- `open` makes the empty map, whatever the words held, and `clear` of a map, by writing all words anew or by draining it.
+-- `open` makes the empty map, whatever the words held, and `clear` of a map, by wiping it or by draining it.
 use mathlib.Core.Path.{_≡_, refl, sym, ap, _∙_}
 use mathlib.Core.Bool.{true, false, true≢false}
 use mathlib.Core.List.{List, [], _∷_, map}
 use Prim.Native.Nat.{ℕ}
 use native.Mathlib.Omega.{arith}
 use lib.ListN.{length}
-use Rattle.limits.specs.Limits.{mapFits as fit}
+use Rattle.limits.specs.Limits.{mapFits}
 use Rattle.linked_hash_map.specs.declared.map.LinkedHashMap.{LinkedHashMap}
-use Rattle.linked_hash_map.specs.Words.{recordAt, emptied}
+use Rattle.linked_hash_map.specs.Words.{recordAt, emptied, wiped}
 use Rattle.linked_hash_map.specs.Numbers.{emptyMap}
 use Rattle.linked_hash_map.specs.Model.{Model}
 use Rattle.linked_hash_map.specs.Map.{IsMap, modelOf}
 use Rattle.linked_hash_map.specs.Calls.{none, Opening, Clearing, Draining}
 use Rattle.linked_hash_map.proofs.Limits.{is-room}
 use Rattle.linked_hash_map.proofs.Finding.{unfit}
-use Rattle.linked_hash_map.proofs.Laid.{to-map, live-is}
-use Rattle.linked_hash_map.proofs.Refill.{laid-emptied}
-use Rattle.linked_hash_map.proofs.Keeping.{kept-same, kept-emptied}
+use Rattle.linked_hash_map.proofs.Laid.{of-map, to-map, live-is}
+use Rattle.linked_hash_map.proofs.Refill.{laid-emptied, laid-wiped}
+use Rattle.linked_hash_map.proofs.Keeping.{kept-same, kept-emptied, kept-wiped}
 
-module _ (ws : List ℕ) (n : ℕ) (f : fit n (length ws) ≡ true) where
+module _ (ws : List ℕ) (n : ℕ) (f : mapFits n (length ws) ≡ true) where
   empty-is-map : IsMap (emptied ws n) (emptyMap n)
   empty-is-map = to-map (emptyMap n) (laid-emptied ws n (is-room n (length ws) f)) refl (omega arith)
 
@@ -36,7 +36,7 @@ module _ (ws : List ℕ) (n : ℕ) (f : fit n (length ws) ≡ true) where
     kept = kept-emptied n ws;
   }
 
-pub opening-refused : (ws : List ℕ) (n : ℕ) → fit n (length ws) ≡ false → Opening ws n ws (record { map = none; is_open = false })
+pub opening-refused : (ws : List ℕ) (n : ℕ) → mapFits n (length ws) ≡ false → Opening ws n ws (record { map = none; is_open = false })
 opening-refused ws n e = record {
   refused = λ _. (refl, refl);
   opened = λ q. absurd (true≢false (sym q ∙ e));
@@ -51,17 +51,24 @@ none-left [] e = refl
 none-left (r ∷ l) e = absurd (omega arith)
 
 module _ (ws : List ℕ) (m : LinkedHashMap) where
-  pub clearing : fit (m .capacity) (length ws) ≡ true → Clearing ws m (emptied ws (m .capacity)) (record { map = emptyMap (m .capacity); is_open = true })
-  clearing f = record {
+  wiped-is-map : IsMap ws m → IsMap (wiped ws (m .capacity)) (emptyMap (m .capacity))
+  wiped-is-map is = to-map (emptyMap (m .capacity)) (laid-wiped (of-map is)) refl (omega arith)
+
+  wiped-model : IsMap ws m → modelOf (wiped ws (m .capacity)) (emptyMap (m .capacity)) ≡ []
+  unfolding modelOf
+  wiped-model is = ap (map (recordAt (wiped ws (m .capacity)))) (live-is (emptyMap (m .capacity)) (laid-wiped (of-map is)) refl)
+
+  pub clearing-wiped : mapFits (m .capacity) (length ws) ≡ true → Clearing ws m (wiped ws (m .capacity)) (record { map = emptyMap (m .capacity); is_open = true })
+  clearing-wiped f = record {
     refused = λ q. absurd (true≢false (sym f ∙ q));
     opened = λ _. refl;
     capacity = refl;
-    map = λ _. empty-is-map ws (m .capacity) f;
-    model = λ _. empty-model ws (m .capacity) f;
-    kept = kept-emptied (m .capacity) ws;
+    map = wiped-is-map;
+    model = wiped-model;
+    kept = kept-wiped (m .capacity) ws;
   }
 
-  pub clearing-drained : fit (m .capacity) (length ws) ≡ true → {ws′ : List ℕ} {r : LinkedHashMap} → Draining ws m 0 ws′ r → Clearing ws m ws′ (record { map = r; is_open = true })
+  pub clearing-drained : mapFits (m .capacity) (length ws) ≡ true → {ws′ : List ℕ} {r : LinkedHashMap} → Draining ws m 0 ws′ r → Clearing ws m ws′ (record { map = r; is_open = true })
   clearing-drained f {ws′} {r} d = record {
     refused = λ q. absurd (true≢false (sym f ∙ q));
     opened = λ _. refl;
@@ -71,7 +78,7 @@ module _ (ws : List ℕ) (m : LinkedHashMap) where
     kept = d .kept;
   }
 
-  pub clearing-refused : fit (m .capacity) (length ws) ≡ false → Clearing ws m ws (record { map = m; is_open = false })
+  pub clearing-refused : mapFits (m .capacity) (length ws) ≡ false → Clearing ws m ws (record { map = m; is_open = false })
   clearing-refused e = record {
     refused = λ _. (refl, refl);
     opened = λ q. absurd (true≢false (sym q ∙ e));

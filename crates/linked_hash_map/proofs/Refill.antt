@@ -2,23 +2,23 @@
 -- a record changes no link, so the walk meets the ring's records, and they are indexed again.
 use mathlib.Core.Path.{_≡_, refl, ap, _∙_}
 use mathlib.Core.Logic.{inl}
-use mathlib.Core.List.{List, [], _∷_, List·Memᴰ}
+use mathlib.Core.List.{List, [], _∷_, _++_, List·Memᴰ}
 use mathlib.Core.List.{List·Memᴰ·head as head, List·Memᴰ·tail as tail}
 use Prim.Native.Nat.{ℕ, zero, suc, _+_, _*_, _<_, _≤_}
 use native.Mathlib.Omega.{arith}
 use lib.ListN.{length, getD}
 use borrow.Author.Tests.{lt-ltb}
-use Rattle.rings.specs.Ring.{next, along, joined, attached, count, down, Two}
+use Rattle.rings.specs.Ring.{next, along, joined, attached, spliced, count, down, Two}
 use Rattle.rings.proofs.Counts.{bit-eq, count-of-mem}
 use Rattle.rings.proofs.Fill.{Filled, fill-start, fill-more, fill-done}
-use Rattle.rings.proofs.Two.{along-ring, count-le-one, one-is-below, two-frame}
-use Rattle.rings.proofs.Links.{length-attached, length-joined}
+use Rattle.rings.proofs.Two.{along-ring, count-le-one, one-is-below, two-frame, two-spliced}
+use Rattle.rings.proofs.Links.{length-attached, length-joined, length-spliced}
 use Rattle.cells.specs.Cells.{cellsFrom, cellWords, zeroed}
 use Rattle.cells.specs.Probe.{entered, enteredAll}
 use Rattle.cells.proofs.Lists.{Distinct}
 use Rattle.cells.proofs.Clearing.{zero-length}
 use Rattle.cells.proofs.Indexing.{entered-outside, zeroed-index, zeroed-outside, entered-all-length, entered-all-outside, refilled-index}
-use Rattle.linked_hash_map.specs.Words.{Room, filled, emptied, enteredFrom, refilled}
+use Rattle.linked_hash_map.specs.Words.{wordsFor, Room, filled, emptied, wiped, enteredFrom, refilled}
 use Rattle.linked_hash_map.proofs.Laid.{Laid}
 
 pub distinct : (l : List ℕ) → ((x : ℕ) → count x l ≤ 1) → Distinct l
@@ -105,3 +105,24 @@ laid-emptied ws n room = record {
 
     size : length (zeroed F (cellsFrom n) (cellWords n)) ≡ length ws
     size = zero-length F (cellsFrom n) (cellWords n) ∙ F-size
+
+pub laid-wiped : {ws : List ℕ} {n : ℕ} {l f : List ℕ} → Laid ws n l f → Laid (wiped ws n) n [] (l ++ f)
+unfolding wiped
+laid-wiped {ws} {n} {l} {f} laid = record {
+  room = record { limit = laid .room .limit; words = rw (zero-length S (cellsFrom n) (cellWords n)) words };
+  rings =
+      two-frame links (zeroed S (cellsFrom n) (cellWords n))
+      (λ i h. zeroed-outside S n (5 * i + 3) (inl (omega arith)))
+      (λ i h. zeroed-outside S n (5 * i + 4) (inl (omega arith)))
+      (rw (zero-length S (cellsFrom n) (cellWords n)) (links .fit));
+  index = zeroed-index S n words;
+}
+  where
+    S : List ℕ
+    S = spliced (n + 2) ws n (n + 1)
+
+    links : Two (n + 2) S n [] (n + 1) (l ++ f)
+    links = two-spliced (laid .rings)
+
+    words : wordsFor n ≤ length S
+    words = rw (length-spliced (n + 2) ws n (n + 1)) (laid .room .words)

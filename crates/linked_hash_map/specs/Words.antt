@@ -5,7 +5,7 @@ use mathlib.Core.List.{List}
 use Prim.Native.Nat.{ℕ, zero, suc, _+_, _*_, _≤_}
 use lib.Dec.{ltb}
 use lib.ListN.{length, getD, set}
-use Rattle.rings.specs.Ring.{next, joined, attached, moved}
+use Rattle.rings.specs.Ring.{next, joined, attached, moved, spliced}
 use Rattle.cells.specs.Cells.{keyAt, cellsFrom, cellWords, setCell, erased, zeroed}
 use Rattle.cells.specs.Probe.{entered}
 use Rattle.linked_hash_map.specs.declared.map.Record.{Record}
@@ -52,6 +52,10 @@ filled ws n i (suc f) = filled (attached (n + 2) ws (n + 1) i) n (i + 1) f
 -- ws with every record free and no cell used
 unfoldable pub emptied : List ℕ → ℕ → List ℕ
 emptied ws n = zeroed (filled (joined (n + 2) (joined (n + 2) ws n n) (n + 1) (n + 1)) n 0 n) (cellsFrom n) (cellWords n)
+
+-- ws with the live ring put into the free one and no cell used
+unfoldable pub wiped : List ℕ → ℕ → List ℕ
+wiped ws n = zeroed (spliced (n + 2) ws n (n + 1)) (cellsFrom n) (cellWords n)
 
 -- ws with k records entered, from x on by the next links, up to a link that is no record
 unfoldable pub enteredFrom : List ℕ → ℕ → ℕ → ℕ → List ℕ

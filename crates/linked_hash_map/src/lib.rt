@@ -14,7 +14,7 @@
 // that looks once and takes only the numbers that change.
 //
 // A call takes expected constant time, but `open` and `check` take time in proportion to n, and `clear` to the records held,
-// or to n where they are more than an eighth of it.
+// or to the cells, which it wipes, where they are more than a thirty-second of n.
 // Any words and any numbers may be handed to any call: a number is tested before it is an index, and every walk is
 // counted. Where the words are no map, only they and the numbers handed back may change.
 mod check;

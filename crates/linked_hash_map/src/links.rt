@@ -2,7 +2,7 @@
 ghost use mathlib.Core.Path.{_≡_};
 ghost use Prim.Native.Nat.{_+_, _<_};
 ghost use lib.ListN.{length};
-ghost use Rattle.rings.specs.Ring.{joined, detached, attached, moved};
+ghost use Rattle.rings.specs.Ring.{joined, detached, attached, moved, spliced};
 ghost use Rattle.linked_hash_map.specs.Words.{Nodes};
 
 // Makes b the next of a and a the previous of b, where both are nodes.
@@ -45,6 +45,22 @@ pub fn move_after(words: &mut [u64], nodes: usize, s: usize, x: usize)
 {
     detach(words, nodes, x);
     attach(words, nodes, s, x);
+}
+
+// Puts the ring of s right after t as it is, by three links however many nodes it has; s is then alone.
+pub fn splice(words: &mut [u64], nodes: usize, s: usize, t: usize)
+    requires { ⌜ Nodes (length (now words)) nodes × (s < nodes) × (t < nodes) ⌝ }
+    ensures { λ _. ⌜ now (words .exit) ≡ spliced nodes (now (words .entry)) s t ⌝ }
+{
+    let first = words[5 * s + 4] as usize;
+    if first == s {
+        return;
+    }
+    let last = words[5 * s + 3] as usize;
+    let next = words[5 * t + 4] as usize;
+    join(words, nodes, t, first);
+    join(words, nodes, last, next);
+    join(words, nodes, s, s);
 }
 
 // Two rings: of s alone, and of t alone.

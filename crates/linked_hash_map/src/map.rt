@@ -3,7 +3,7 @@ ghost use mathlib.Core.Path.{_≡_};
 ghost use Prim.Native.Nat.{_+_, _-_, _<_, _≤_};
 ghost use lib.ListN.{length};
 ghost use Rattle.cells.specs.Cells.{cellCount};
-ghost use Rattle.linked_hash_map.specs.Words.{Room, Nodes, recordAt, written, emptied, refilled, replaced, takenOut};
+ghost use Rattle.linked_hash_map.specs.Words.{Room, Nodes, recordAt, written, emptied, wiped, refilled, replaced, takenOut};
 ghost use Rattle.linked_hash_map.specs.Numbers.{emptyMap, shrunkMap, longerMap, slotFrom, lenAfter, Grown, Inserting, Renewing};
 ghost use Rattle.linked_hash_map.specs.Calls.{Opening, Clearing, Draining, Finding, Touching, Reading, Writing, placeOf, ReplacingAt, InsertingAt, TakingAt, Putting, Removing, Recycling, Ending, Next, Previous, Checking};
 use crate::check;
@@ -95,6 +95,15 @@ fn empty_words(words: &mut [u64], n: usize)
         links::attach(words, n + 2, n + 1, i);
         i += 1;
     }
+    index::clear_cells(words, n);
+}
+
+// The same where the words are a map: its live ring goes to the free one whole, so that only the cells cost with n.
+fn wipe(words: &mut [u64], n: usize)
+    requires { ⌜ Room (length (now words)) n ⌝ }
+    ensures { λ _. ⌜ now (words .exit) ≡ wiped (now (words .entry)) n ⌝ }
+{
+    links::splice(words, n + 2, n, n + 1);
     index::clear_cells(words, n);
 }
 
@@ -191,7 +200,7 @@ impl LinkedHashMap {
         }
     }
 
-    // The empty map. Few records are removed one by one, which costs less than to write all words anew.
+    // The empty map. Very few records are removed one by one, which costs less than to wipe all cells.
     pub fn clear(self, words: &mut [u64]) -> Opened
         ensures { λ r. ⌜ Clearing (now (words .entry)) self (now (words .exit)) r ⌝ }
     {
@@ -202,13 +211,13 @@ impl LinkedHashMap {
                 is_open: false,
             };
         }
-        if self.len <= n / 8 {
+        if self.len <= n / 32 {
             return Opened {
                 map: self.drained(words),
                 is_open: true,
             };
         }
-        empty_words(words, n);
+        wipe(words, n);
         Opened {
             map: empty_map(n),
             is_open: true,

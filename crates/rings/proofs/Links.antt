@@ -7,10 +7,10 @@ use mathlib.Core.List.{List}
 use Prim.Native.Nat.{ℕ, _+_, _*_, _%_, _<_, _≤_}
 use native.Mathlib.Omega.{arith}
 use borrow.Author.Tests.{lt-ltb, ltb-true}
-use lib.Dec.{ltb}
+use lib.Dec.{ltb, eqb}
 use lib.ListN.{length, getD, length-set}
 use lib.Seq.{getD-set-same, getD-set-other, lt-length-set}
-use Rattle.rings.specs.Ring.{prev, next, linked, joined, detached, attached, moved}
+use Rattle.rings.specs.Ring.{prev, next, linked, joined, detached, attached, moved, spliced}
 
 -- ---- one link
 
@@ -55,6 +55,10 @@ joined-cases P N ws a b h k = go (ltb a N) (ltb b N) (ltb-true a N) (ltb-true b 
     go false true ha hb = h
     go false false ha hb = h
 
+either : (P : List ℕ → Type 0) (b : Bool) (k l : List ℕ) → P k → P l → P (cond b k l)
+either P true k l hk hl = hk
+either P false k l hk hl = hl
+
 -- ---- the length
 
 pub length-joined : (N : ℕ) (ws : List ℕ) (a b : ℕ) → length (joined N ws a b) ≡ length ws
@@ -71,6 +75,10 @@ length-attached N ws s x = simp length-joined
 pub length-moved : (N : ℕ) (ws : List ℕ) (s x : ℕ) → length (moved N ws s x) ≡ length ws
 unfolding moved
 length-moved N ws s x = simp (length-attached, length-detached)
+
+pub length-spliced : (N : ℕ) (ws : List ℕ) (s t : ℕ) → length (spliced N ws s t) ≡ length ws
+unfolding spliced
+length-spliced N ws s t = either (λ l. length l ≡ length ws) (eqb (next ws s) s) ws _ refl (simp length-joined)
 
 -- ---- a word that is no link
 
@@ -105,3 +113,7 @@ past-attached N ws s x j h = simp past-joined
 pub past-moved : (N : ℕ) (ws : List ℕ) (s x j : ℕ) → 5 * N ≤ j → getD (moved N ws s x) j 0 ≡ getD ws j 0
 unfolding moved
 past-moved N ws s x j h = simp (past-attached, past-detached)
+
+pub past-spliced : (N : ℕ) (ws : List ℕ) (s t j : ℕ) → 5 * N ≤ j → getD (spliced N ws s t) j 0 ≡ getD ws j 0
+unfolding spliced
+past-spliced N ws s t j h = either (λ l. getD l j 0 ≡ getD ws j 0) (eqb (next ws s) s) ws _ refl (simp past-joined)

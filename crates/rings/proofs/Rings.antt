@@ -1,12 +1,14 @@
 -- Edges, and lists of them. An edge is linked both ways, so a node has one edge in and one out: an edge that x is no end of
--- stays when x goes out, and one that neither leaves s nor touches x stays when x goes in after s.
+-- stays when x goes out, one that neither leaves s nor touches x stays when x goes in after s, and one that leaves neither
+-- s nor t and does not come back to s stays when the ring of s goes in after t.
 use mathlib.Core.Path.{_≡_, refl, sym, ap, _∙_}
 use mathlib.Core.Logic.{_≢_, _⊎_, inl, inr}
-use mathlib.Core.List.{List, [], _∷_}
+use mathlib.Core.List.{List, [], _∷_, _++_}
 use Prim.Native.Nat.{ℕ, zero, suc, _*_, _<_, _≤_}
 use native.Mathlib.Omega.{arith}
+use borrow.Author.Tests.{eq-eqb, ne-eqb}
 use lib.ListN.{length, getD}
-use Rattle.rings.specs.Ring.{prev, next, linked, detached, attached, Edge, Linked, Ring, count, along, without}
+use Rattle.rings.specs.Ring.{prev, next, linked, detached, attached, spliced, Edge, Linked, Ring, count, along, without}
 use Rattle.rings.proofs.Links.{length-linked, next-linked, prev-linked, next-linked-other, prev-linked-other, joined-in}
 use Rattle.rings.proofs.Counts.{by-eq, bit-eq, bit-ne, apart, without-nil, without-same, without-other}
 
@@ -43,6 +45,15 @@ module _ (N : ℕ) (ws : List ℕ) where
   pub edge-first : (a : ℕ) (l : List ℕ) (z : ℕ) → Linked N ws a l z → Edge N ws a (next ws a)
   edge-first a [] z e = rw (e .forward) e
   edge-first a (y ∷ l) z e = rw (e .0 .forward) (e .0)
+
+  pub edge-last : (a : ℕ) (l : List ℕ) (z : ℕ) → Linked N ws a l z → Edge N ws (prev ws z) z
+  edge-last a [] z e = rw (e .backward) e
+  edge-last a (y ∷ l) z e = edge-last y l z (e .1)
+
+  -- what is neither in l nor z does not come right after a
+  pub next-apart : (a : ℕ) (l : List ℕ) (z x : ℕ) → Linked N ws a l z → count x l ≡ 0 → z ≢ x → next ws a ≢ x
+  next-apart a [] z x e h hz q = hz (sym (e .forward) ∙ q)
+  next-apart a (y ∷ l) z x e h hz q = apart x y l h (sym (e .0 .forward) ∙ q)
 
   -- the edges into and out of a node of l, and the first of them is from a or a node of l
   pub edges-around : (a : ℕ) (l : List ℕ) (z x : ℕ) → Linked N ws a l z → 1 ≤ count x l → Edge N ws (prev ws x) x × Edge N ws x (next ws x) × (1 ≤ count (prev ws x) (a ∷ l))
@@ -112,7 +123,52 @@ module _ (N : ℕ) (ws : List ℕ) (s f x : ℕ) (fit : 5 * N ≤ length ws) (hx
       let q : y ≡ f = cc in
       (edge-in-first, (rw q (edge-in-second (apart x s (y ∷ l) h) (rw q at (apart x y l (omega arith)))), linked-in-other y l z hs (omega arith) hz (e .1)))
 
--- ---- `detached` and `attached`, on a ring
+-- ---- the nodes from x to p, a ring with s, go in between t and f
+
+module _ (N : ℕ) (ws : List ℕ) (s x p t f : ℕ) (fit : 5 * N ≤ length ws) (ex : Edge N ws s x) (ep : Edge N ws p s) (ef : Edge N ws t f) (hx : x ≢ s) (ht : t ≢ s) (hf : f ≢ s) where
+  abbrev joint : List ℕ
+  joint = linked (linked (linked ws t x) p f) s s
+
+  -- an edge out of neither sentinel, and not into s, stays
+  edge-over-other : (i j : ℕ) → i ≢ s → i ≢ t → j ≢ s → Edge N ws i j → Edge N joint i j
+  edge-over-other i j hs hi hj e =
+      edge-other N _ s s i j hs hj
+      (edge-other N _ p f i j (λ q. hj (cc)) (λ q. hi (cc))
+      (edge-other N ws t x i j hi (λ q. hs (cc)) e))
+
+  linked-over-other : (a : ℕ) (l : List ℕ) (z : ℕ) → count s (a ∷ l) ≡ 0 → count t (a ∷ l) ≡ 0 → z ≢ s → Linked N ws a l z → Linked N joint a l z
+  linked-over-other a [] z hs h hz e = edge-over-other a z (apart s a [] hs) (apart t a [] h) hz e
+  linked-over-other a (y ∷ l) z hs h hz e = (
+    edge-over-other a y (apart s a (y ∷ l) hs) (apart t a (y ∷ l) h) (apart s y l (omega arith)) (e .0),
+    linked-over-other y l z (omega arith) (omega arith) hz (e .1),
+  )
+
+  edge-over-first : Edge N joint t x
+  edge-over-first =
+      edge-other N _ s s t x ht hx
+      (edge-other N _ p f t x (λ q. hf (cc)) (λ q. ht (cc))
+      (edge-new N ws t x fit (ef .from) (ex .to)))
+
+  edge-over-last : (y : ℕ) → y ≡ f → Edge N joint p y
+  edge-over-last y e = rw e (edge-other N _ s s p f (λ q. hx (cc)) hf (edge-new N _ p f (rw length-linked fit) (ep .from) (ef .to)))
+
+  edge-over-alone : Edge N joint s s
+  edge-over-alone = edge-new N _ s s (simp length-linked fit) (ex .from) (ex .from)
+
+  linked-over-rest : (m : List ℕ) → count s m ≡ 0 → count t m ≡ 0 → Linked N ws t m t → Linked N joint p m t
+  linked-over-rest [] hs h e = edge-over-last t (cc)
+  linked-over-rest (y ∷ m) hs h e = (edge-over-last y (cc), linked-over-other y m t hs h ht (e .1))
+
+  linked-over : (a : ℕ) (l m : List ℕ) → count s (a ∷ l) ≡ 0 → count t (a ∷ l) ≡ 0 → count s m ≡ 0 → count t m ≡ 0 → Linked N ws a l s → Linked N ws t m t → Linked N joint a (l ++ m) t
+  linked-over a [] m hs h ks k e o =
+      let q : a ≡ p = cc in
+      rw q (linked-over-rest m ks k o)
+  linked-over a (y ∷ l) m hs h ks k e o = (
+    edge-over-other a y (apart s a (y ∷ l) hs) (apart t a (y ∷ l) h) (apart s y l (omega arith)) (e .0),
+    linked-over y l m (omega arith) (omega arith) ks k (e .1) o,
+  )
+
+-- ---- `detached`, `attached` and `spliced`, on a ring
 
 module _ (N : ℕ) (ws : List ℕ) (fit : 5 * N ≤ length ws) where
   -- x goes out of every ring
@@ -138,3 +194,25 @@ module _ (N : ℕ) (ws : List ℕ) (fit : 5 * N ≤ length ws) where
     ring-attached-other t m hs h o =
         let es = edge-first N ws s l s r in
         rw (attached-in s x (es .from) hx (es .to)) (linked-in-other N ws s (next ws s) x fit hx es t m t hs h (apart x t m h) o)
+
+  -- a ring goes in at the front of another
+  pub ring-spliced : (s : ℕ) (l : List ℕ) (t : ℕ) (m : List ℕ) → count s l ≡ 0 → count s (t ∷ m) ≡ 0 → count t (s ∷ l) ≡ 0 → count t m ≡ 0 → Ring N ws s l → Ring N ws t m
+      → Ring N (spliced N ws s t) s [] × Ring N (spliced N ws s t) t (l ++ m)
+  unfolding spliced
+  ring-spliced s [] t m hl hm kl km r o = rw (eq-eqb (next ws s) s (r .forward)) (r, o)
+  ring-spliced s (x ∷ l) t m hl hm kl km r o =
+      let hx : x ≢ s = apart s x l hl in
+      let ht : t ≢ s = apart s t m hm in
+      let hf : next ws t ≢ s = next-apart N ws t m t s o (omega arith) ht in
+      let ep = edge-last N ws s (x ∷ l) s r in
+      let ef = edge-first N ws t m t o in
+      rw (r .0 .forward, ne-eqb x s hx)
+      (rw (joined-in N ws t x (ef .from) (r .0 .to))
+      (rw (joined-in N _ (prev ws s) (next ws t) (ep .from) (ef .to))
+      (rw (joined-in N _ s s (ep .to) (ep .to)) (
+        edge-over-alone N ws s x (prev ws s) t (next ws t) fit (r .0) ep ef hx ht hf,
+        (
+          edge-over-first N ws s x (prev ws s) t (next ws t) fit (r .0) ep ef hx ht hf,
+          linked-over N ws s x (prev ws s) t (next ws t) fit (r .0) ep ef hx ht hf x l m hl (omega arith) (omega arith) km (r .1) o,
+        ),
+      ))))

@@ -1,17 +1,18 @@
 -- Two rings that hold each node once between them. A node of one ring is none of the other and no sentinel, for its count is
--- one already; so taking it out and putting it at a front keeps both the edges and the counts.
+-- one already; so taking it out and putting it at a front keeps both the edges and the counts, and so does putting all of
+-- a ring there.
 use mathlib.Core.Path.{_≡_, refl, sym, _∙_}
 use mathlib.Core.Logic.{_≢_}
-use mathlib.Core.List.{List, [], _∷_, List·Memᴰ}
+use mathlib.Core.List.{List, [], _∷_, _++_, List·Memᴰ}
 use Prim.Native.Nat.{ℕ, suc, _+_, _-_, _*_, _<_, _≤_}
 use native.Mathlib.Omega.{arith}
 use native.Mathlib.Numerals.{add-one}
 use lib.Dec.{ltb}
-use lib.ListN.{length, getD, List·getD-eq-default}
-use Rattle.rings.specs.Ring.{prev, next, detached, attached, moved, Edge, Ring, bit, count, Two, along, without}
-use Rattle.rings.proofs.Links.{length-attached, length-detached}
-use Rattle.rings.proofs.Counts.{by-lt, bit-le, bit-eq, bit-ge, count-of-mem, length-without, without-none, count-front}
-use Rattle.rings.proofs.Rings.{edge-at, edges-around, along-linked, linked-frame, ring-detached, ring-attached, ring-attached-other}
+use lib.ListN.{length, getD, length-append, List·getD-eq-default}
+use Rattle.rings.specs.Ring.{prev, next, detached, attached, moved, spliced, Edge, Ring, bit, count, Two, along, without}
+use Rattle.rings.proofs.Links.{length-attached, length-detached, length-spliced}
+use Rattle.rings.proofs.Counts.{by-lt, bit-le, bit-eq, bit-ge, count-append, count-of-mem, length-without, without-none, count-front}
+use Rattle.rings.proofs.Rings.{edge-at, edges-around, along-linked, linked-frame, ring-detached, ring-attached, ring-attached-other, ring-spliced}
 
 pub two-swap : {N : ℕ} {ws : List ℕ} {s : ℕ} {l : List ℕ} {t : ℕ} {m : List ℕ} → Two N ws s l t m → Two N ws t m s l
 two-swap w = record { fit = w .fit; one = w .other; other = w .one; all = λ i. omega (arith, w .all i); size = omega arith }
@@ -135,3 +136,20 @@ module _ {N : ℕ} {ws : List ℕ} {s : ℕ} {l : List ℕ} {t : ℕ} {m : List 
   unfolding moved
   move-across = two-swap (two-attached N (detached N ws x) t m s (without x l) x fit-out other-out one-out
       (λ i. omega (arith, w .all i, count-front x i l count-is-one)) (omega (arith, w .size, length-without-one)))
+
+-- ---- all nodes of a ring go to the other
+
+pub two-spliced : {N : ℕ} {ws : List ℕ} {s : ℕ} {l : List ℕ} {t : ℕ} {m : List ℕ} → Two N ws s l t m → Two N (spliced N ws s t) s [] t (l ++ m)
+two-spliced {N} {ws} {s} {l} {t} {m} w =
+    let cs = counts-le-one w s in
+    let ct = counts-le-one w t in
+    let r = ring-spliced N ws (w .fit) s l t m
+    (omega (arith, cs, bit-eq s s refl)) (omega (arith, cs, bit-eq s s refl))
+    (omega (arith, ct, bit-eq t t refl)) (omega (arith, ct, bit-eq t t refl)) (w .one) (w .other) in
+    record {
+      fit = rw length-spliced (w .fit);
+      one = r .0;
+      other = r .1;
+      all = λ i. omega (arith, w .all i, count-append i l m);
+      size = omega (arith, w .size, length-append l m);
+    }

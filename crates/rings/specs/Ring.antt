@@ -32,6 +32,10 @@ attached N ws s x = joined N (joined N ws x (next ws s)) s x
 unfoldable pub moved : ℕ → List ℕ → ℕ → ℕ → List ℕ
 moved N ws s x = attached N (detached N ws x) s x
 
+-- the ring of s, where it is not empty, put right after t as it is; s is then alone
+unfoldable pub spliced : ℕ → List ℕ → ℕ → ℕ → List ℕ
+spliced N ws s t = cond (eqb (next ws s) s) ws (joined N (joined N (joined N ws t (next ws s)) (prev ws s) (next ws t)) s s)
+
 -- a and b are nodes, b is the next of a, and a is the previous of b
 pub record Edge (N : ℕ) (ws : List ℕ) (a b : ℕ) : Type 0 where
   pub from : a < N

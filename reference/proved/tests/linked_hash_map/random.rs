@@ -105,16 +105,16 @@ fn largest_map() {
     assert!(4 <= refills, "only {refills} refills");
 }
 
-/// Up to an eighth of the room is removed one by one, and more is written anew.
+/// Up to a thirty-second of the room is removed one by one, and more is freed whole.
 #[test]
 fn cleared_with_few_and_with_many_records() {
-    for capacity in [0, 1, 7, 8, 16, 64, 4096] {
+    for capacity in [0, 1, 7, 31, 32, 64, 4096] {
         let mut random = SplitMix64(capacity);
         let keys = keys(&mut random, capacity);
         let mut map = LinkedHashMap::new(capacity);
         let mut model = Model::new(capacity, Vec::new());
-        let eighth = capacity / 8;
-        for held in [0, 1, eighth, eighth + 1, capacity, 1, 0] {
+        let few = capacity / 32;
+        for held in [0, 1, few, few + 1, capacity, 1, 0] {
             for &key in &keys[..held.min(capacity) as usize] {
                 let call = Call::Put(Record {
                     key,

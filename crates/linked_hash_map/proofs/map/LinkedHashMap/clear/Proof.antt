@@ -1,6 +1,6 @@
 use borrow.Author.Needs.{needs}
 use Rattle.linked_hash_map.proofs.Limits.{no-room, room, is-room}
-use Rattle.linked_hash_map.proofs.Opening.{clearing-refused, clearing-drained, clearing}
+use Rattle.linked_hash_map.proofs.Opening.{clearing-refused, clearing-drained, clearing-wiped}
 use Rattle.linked_hash_map.proofs.map.LinkedHashMap.clear.Statement.{statement}
 use Rattle.linked_hash_map.proofs.map.LinkedHashMap.clear.Tie as tie
 
@@ -16,4 +16,4 @@ clear-spec =
     (λ c κs. is-room _ _ (room (c .before .before .before .before .map .ensures) (c .before .before .before .if1 .left)))
     (λ c κs. is-room _ _ (room (c .before .before .before .before .before .before .before .map .ensures) (c .before .before .before .before .before .before .if1 .left)) .limit)
     (λ c. search needs)
-    (λ c. rw (c .before .before .before .empty-words .ensures, c .empty-map .ensures) (clearing _ _ (room (c .before .before .before .before .before .before .before .before .map .ensures) (c .before .before .before .before .before .before .before .if1 .left)))))
+    (λ c. rw (c .before .before .before .wipe .ensures, c .empty-map .ensures) (clearing-wiped _ _ (room (c .before .before .before .before .before .before .before .before .map .ensures) (c .before .before .before .before .before .before .before .if1 .left)))))

@@ -1,6 +1,6 @@
 use borrow.Author.Needs.{needs}
-use Rattle.expiring.proofs.expiring.of_oldest.Statement.{statement}
-use Rattle.expiring.proofs.expiring.of_oldest.Tie as tie
+use Rattle.expiring_answers.proofs.answers.of_oldest.Statement.{statement}
+use Rattle.expiring_answers.proofs.answers.of_oldest.Tie as tie
 
 pub of-oldest-spec : {M : Type 1} → statement M
 of-oldest-spec =

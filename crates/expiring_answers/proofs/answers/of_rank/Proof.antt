@@ -1,6 +1,6 @@
 use borrow.Author.Needs.{needs}
-use Rattle.expiring.proofs.expiring.of_rank.Statement.{statement}
-use Rattle.expiring.proofs.expiring.of_rank.Tie as tie
+use Rattle.expiring_answers.proofs.answers.of_rank.Statement.{statement}
+use Rattle.expiring_answers.proofs.answers.of_rank.Tie as tie
 
 pub of-rank-spec : {M : Type 1} → statement M
 of-rank-spec =

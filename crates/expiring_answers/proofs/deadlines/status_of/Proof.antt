@@ -1,7 +1,7 @@
 use mathlib.Core.Path.{sym, _∙_}
 use borrow.Author.Needs.{needs}
-use Rattle.expiring.proofs.expiring.status_of.Statement.{statement}
-use Rattle.expiring.proofs.expiring.status_of.Tie as tie
+use Rattle.expiring_answers.proofs.deadlines.status_of.Statement.{statement}
+use Rattle.expiring_answers.proofs.deadlines.status_of.Tie as tie
 
 pub status-of-spec : {M : Type 1} → statement M
 status-of-spec =

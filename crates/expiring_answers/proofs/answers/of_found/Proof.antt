@@ -1,6 +1,6 @@
 use borrow.Author.Needs.{needs}
-use Rattle.expiring.proofs.expiring.of_found.Statement.{statement}
-use Rattle.expiring.proofs.expiring.of_found.Tie as tie
+use Rattle.expiring_answers.proofs.answers.of_found.Statement.{statement}
+use Rattle.expiring_answers.proofs.answers.of_found.Tie as tie
 
 pub of-found-spec : {M : Type 1} → statement M
 of-found-spec =

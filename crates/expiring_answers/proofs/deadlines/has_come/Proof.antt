@@ -1,6 +1,6 @@
 use borrow.Author.Needs.{needs}
-use Rattle.expiring.proofs.expiring.has_come.Statement.{statement}
-use Rattle.expiring.proofs.expiring.has_come.Tie as tie
+use Rattle.expiring_answers.proofs.deadlines.has_come.Statement.{statement}
+use Rattle.expiring_answers.proofs.deadlines.has_come.Tie as tie
 
 pub has-come-spec : {M : Type 1} → statement M
 has-come-spec =

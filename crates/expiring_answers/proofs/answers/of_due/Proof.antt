@@ -1,6 +1,6 @@
 use borrow.Author.Needs.{needs}
-use Rattle.expiring.proofs.expiring.of_due.Statement.{statement}
-use Rattle.expiring.proofs.expiring.of_due.Tie as tie
+use Rattle.expiring_answers.proofs.answers.of_due.Statement.{statement}
+use Rattle.expiring_answers.proofs.answers.of_due.Tie as tie
 
 pub of-due-spec : {M : Type 1} → statement M
 of-due-spec =
