@@ -7,6 +7,7 @@ use Prim.Native.Nat.{ℕ, _-_, _^_, _<_}
 use native.Mathlib.Omega.{arith}
 use lib.Dec.{eqb, leb}
 use lib.ListN.{length}
+use Rattle.limits.specs.Limits.{heapLimits, heapLimitsWith}
 use Rattle.time.specs.declared.tick.Tick.{Tick}
 use Rattle.time.specs.declared.refusal.Refusal.{Refusal}
 use Rattle.time.specs.declared.refusal.Refusal.the-variants.{KeyLimitReached}
@@ -27,7 +28,6 @@ use Rattle.lazy_heap.specs.declared.heap.Opened as heapOpened
 use Rattle.lazy_heap.specs.declared.heap.Updated.{Updated}
 use Rattle.lazy_heap.specs.declared.heap.Bested.{Bested}
 use Rattle.lazy_heap.specs.declared.heap.Stepped.{Stepped}
-use Rattle.lazy_heap.specs.Words.{limitsOf, limitsWith}
 use Rattle.lazy_heap.specs.Answers.{ofScore, ofBest, ofNumber, ofFlag}
 use Rattle.lazy_heap_model.specs.Model.{Heap, len, heapLen, atMost, heldScore, fromLive, tooMany, rebuilt, renumbered, beforePush, pushed, maybeRebuilt, opened, updated, removed, peeked, popped, poppedFrom, bestOfHeap, cleared}
 use Rattle.lazy_heap_model.specs.Model as lazy
@@ -112,10 +112,10 @@ index-after : {ws ws′ : List ℕ} {x x′ : ExpirationIndex} {m : Heap} → Is
 index-after is h e f = record { heap = h; factor = ap (λ (m : Heap). m .factor) e ∙ f ∙ is .factor }
 
 -- ---- opening
-with-two : (d l : ℕ) → limitsWith d l 2 ≡ limitsOf d l
-with-two d l = go (limitsOf d l) refl
+with-two : (d l : ℕ) → heapLimitsWith d l 2 ≡ heapLimits d l
+with-two d l = go (heapLimits d l) refl
   where
-    go : (o : Outcome) → limitsOf d l ≡ o → limitsWith d l 2 ≡ limitsOf d l
+    go : (o : Outcome) → heapLimits d l ≡ o → heapLimitsWith d l 2 ≡ heapLimits d l
     go (Refused why) q = sym (q ∙ with-refused d l 2 q)
     go Done q = sym (q ∙ with-small d l 2 q (omega arith))
 

@@ -9,12 +9,13 @@ use mathlib.Core.Option.{Option, none, some}
 use Prim.Native.Nat.{ℕ, _^_, _<_}
 use lib.Dec.{eqb}
 use lib.ListN.{length}
+use Rattle.limits.specs.Limits.{heapLimits}
 use Rattle.time.specs.declared.tick.Tick.{Tick}
 use Rattle.time.specs.declared.refusal.Refusal.{Refusal}
 use Rattle.time.specs.declared.refusal.Refusal.the-variants.{KeyLimitReached}
 use Rattle.time.specs.declared.refusal.Outcome.{Outcome}
 use Rattle.time.specs.declared.refusal.Outcome.the-variants.{Done, Refused}
-use Rattle.lazy_heap.specs.Words.{limitsOf, Kept}
+use Rattle.lazy_heap.specs.Words.{Kept}
 use Rattle.lazy_heap_model.specs.Model.{Heap, heapLen, surplus, opened, updated, updateDiscards, removed, peeked, popped, cleared, stale}
 use Rattle.lazy_heap.specs.Calls.{noHeap, nothing, withHeld}
 use Rattle.expiration_index.specs.declared.index.ExpirationIndex.{ExpirationIndex}
@@ -41,11 +42,11 @@ noIndex = record { heap = noHeap }
 
 -- refusals 1 and 2 of an index's numbers
 abbrev pub limitsIn : List ℕ → ExpirationIndex → Outcome
-limitsIn ws x = limitsOf (limit x) (length ws)
+limitsIn ws x = heapLimits (limit x) (length ws)
 
 -- `open`: the empty index, whatever the words held
 pub record Opening (ws : List ℕ) (d s : ℕ) (ws′ : List ℕ) (r : Opened) : Type 0 where
-  pub outcome : r .outcome ≡ limitsOf d (length ws)
+  pub outcome : r .outcome ≡ heapLimits d (length ws)
   pub refused : (why : Refusal) → r .outcome ≡ Refused why → (r .index ≡ noIndex) × (ws′ ≡ ws)
   pub index : r .outcome ≡ Done → IsIndex ws′ (r .index)
   pub model : r .outcome ≡ Done → modelOf ws′ (r .index) ≡ []

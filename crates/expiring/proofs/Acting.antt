@@ -6,6 +6,7 @@ use mathlib.Core.List.{List}
 use Prim.Native.Nat.{ℕ, _^_, _<_}
 use native.Mathlib.Omega.{arith}
 use lib.ListN.{length}
+use Rattle.limits.specs.Limits.{bookLimits}
 use Rattle.time.specs.declared.tick.Tick.{Tick}
 use Rattle.time.specs.declared.refusal.Refusal.{Refusal}
 use Rattle.time.specs.declared.refusal.Refusal.the-variants.{InvalidNanos, KeyLimitReached}
@@ -20,7 +21,7 @@ use Rattle.expiring.specs.declared.expiring.Expiring.{Expiring}
 use Rattle.expiring_model.specs.declared.lifetimes.DefaultTtl.{DefaultTtl}
 use Rattle.expiring_model.specs.Model.{Book, Call, Change, keep, set, drop, dropExpired, dropAll, look, changeOf, pairsAfter, storedAfter, expiredBy, answered, badNanos, setsBeyond, refusalOf, accepted, answerOf, bookAfter}
 use Rattle.expiring_model.specs.Discards.{discards, heapAfter, discardedBy, heapBy}
-use Rattle.expiring.specs.Book.{limitsOf, capacityOf, limitOf, IsBook, heapOf, modelOf}
+use Rattle.expiring.specs.Book.{capacityOf, limitOf, IsBook, heapOf, modelOf}
 use Rattle.expiring.specs.Calls.{causeOf, Following}
 use Rattle.expiring.specs.Steps.{withExpired, replying, storedOf, deadlinesOf, saturatingSum, Moved, beyond, Acting}
 use Rattle.expiring.proofs.Frames.{kept-same}
@@ -109,15 +110,15 @@ reads-itself ws b m n = refl
 
 -- ---- refusals 1, 2 and 3
 module _ (ws : List ℕ) (b : Expiring) (t : Tick) (c : Call) where
-  no-cause : limitsOf (capacityOf b) (limitOf b) (length ws) ≡ Done → badNanos c ≡ false → causeOf b (length ws) c ≡ Done
+  no-cause : bookLimits (capacityOf b) (limitOf b) (length ws) ≡ Done → badNanos c ≡ false → causeOf b (length ws) c ≡ Done
   unfolding causeOf
   no-cause l n = rw (l, n)
 
-  cause-limits : {why : Refusal} → limitsOf (capacityOf b) (limitOf b) (length ws) ≡ Refused why → causeOf b (length ws) c ≡ Refused why
+  cause-limits : {why : Refusal} → bookLimits (capacityOf b) (limitOf b) (length ws) ≡ Refused why → causeOf b (length ws) c ≡ Refused why
   unfolding causeOf
   cause-limits l = rw l
 
-  cause-nanos : limitsOf (capacityOf b) (limitOf b) (length ws) ≡ Done → badNanos c ≡ true → causeOf b (length ws) c ≡ Refused InvalidNanos
+  cause-nanos : bookLimits (capacityOf b) (limitOf b) (length ws) ≡ Done → badNanos c ≡ true → causeOf b (length ws) c ≡ Refused InvalidNanos
   unfolding causeOf
   cause-nanos l n = rw (l, n)
 
@@ -135,10 +136,10 @@ module _ (ws : List ℕ) (b : Expiring) (t : Tick) (c : Call) where
     kept = kept-same (capacityOf b) (limitOf b) ws;
   }
 
-  pub follow-limits : {why : Refusal} → limitsOf (capacityOf b) (limitOf b) (length ws) ≡ Refused why → Following ws b t c ws (replying b (answers.Refused why))
+  pub follow-limits : {why : Refusal} → bookLimits (capacityOf b) (limitOf b) (length ws) ≡ Refused why → Following ws b t c ws (replying b (answers.Refused why))
   follow-limits e = turned-back (cause-limits e) (λ o. absurd (no-book ws b e o))
 
-  pub follow-nanos : limitsOf (capacityOf b) (limitOf b) (length ws) ≡ Done → badNanos c ≡ true → Following ws b t c ws (replying b (answers.Refused InvalidNanos))
+  pub follow-nanos : bookLimits (capacityOf b) (limitOf b) (length ws) ≡ Done → badNanos c ≡ true → Following ws b t c ws (replying b (answers.Refused InvalidNanos))
   unfolding refusalOf
   follow-nanos l n = turned-back (cause-nanos l n) (λ o x y. refusal x y)
     where
@@ -146,7 +147,7 @@ module _ (ws : List ℕ) (b : Expiring) (t : Tick) (c : Call) where
       refusal x y = rw n
 
   -- ---- a call that is not turned back by a cause
-  module _ (limits : limitsOf (capacityOf b) (limitOf b) (length ws) ≡ Done) (nanos : badNanos c ≡ false) {ch : Change} {s : Items} {n : ℕ} {a : Answer} {ws′ : List ℕ} {r : Reply} (act : Acting ws b ch s n a ws′ r)
+  module _ (limits : bookLimits (capacityOf b) (limitOf b) (length ws) ≡ Done) (nanos : badNanos c ≡ false) {ch : Change} {s : Items} {n : ℕ} {a : Answer} {ws′ : List ℕ} {r : Reply} (act : Acting ws b ch s n a ws′ r)
       (change : IsBook ws b → (x y : ℕ) → changeOf t c (modelOf ws b x y) ≡ ch) (stored : IsBook ws b → (x y : ℕ) → storedAfter t c (modelOf ws b x y) ≡ s)
       (expired : IsBook ws b → (x y : ℕ) → expiredBy t c (modelOf ws b x y) ≡ n) (answer : IsBook ws b → (x y : ℕ) → answered t c (modelOf ws b x y) ≡ a) where
     refusal : IsBook ws b → (x y : ℕ) → refusalOf t c (modelOf ws b x y) ≡ cond (beyond ch ws b) (Refused KeyLimitReached) Done

@@ -7,11 +7,11 @@ use Prim.Native.Nat.{ℕ, _+_, _*_, _≤_}
 use native.Mathlib.Omega.{arith}
 use borrow.Author.Tests.{ne-eqb, le-ltb}
 use lib.ListN.{length, length-drop}
+use Rattle.limits.specs.Limits.{heapLimits, bookLimits}
 use Rattle.time.specs.declared.tick.Tick.{Tick}
 use Rattle.time.specs.declared.refusal.Refusal.{Refusal}
 use Rattle.time.specs.declared.refusal.Outcome.the-variants.{Done, Refused}
 use Rattle.lazy_heap_model.specs.Model.{heapLen}
-use Rattle.lazy_heap.specs.Words as heap
 use Rattle.fast_lru.specs.declared.answers.Told.{Told}
 use Rattle.fast_lru.specs.declared.answers.Told.the-variants as told
 use Rattle.fast_lru.specs.declared.answers.Count.{Count}
@@ -29,7 +29,7 @@ use Rattle.expiration_index.specs.Index as index
 use Rattle.expiration_index.specs.Calls as calls
 use Rattle.expiring.specs.declared.expiring.Expiring.{Expiring}
 use Rattle.expiring_model.specs.Model.{hasCome}
-use Rattle.expiring.specs.Book.{Room, start, limitsOf, capacityOf, limitOf, IsBook, modelOf}
+use Rattle.expiring.specs.Book.{Room, start, capacityOf, limitOf, IsBook, modelOf}
 use Rattle.expiring.specs.Calls.{Checking, Counting, DeadlinesHeld, HeapLength}
 use Rattle.expiring_answers.specs.Answers.{comeBy}
 use Rattle.expiring.specs.Steps.{storedOf, deadlinesOf, DeadlineOf, Expired, Stored, StoredCount, ExpiredCount}
@@ -49,7 +49,7 @@ module _ (ws : List ℕ) (b : Expiring) (room : Room (length ws) (capacityOf b) 
 
   -- there is room for the index behind a book's list
   lent-limits : calls.limitsIn (lent ws b) (b .index) ≡ Done
-  unfolding heap.limitsOf
+  unfolding heapLimits
   lent-limits =
       let d = limitOf b in
       let size : 64 + 32 * d ≤ length (lent ws b) = omega (arith, ap length (lent-is ws b room), length-drop (start (capacityOf b)) ws, room .words) in
@@ -110,5 +110,5 @@ pub count-refused : {ws : List ℕ} {b : Expiring} {n : ℕ} {why : Refusal} {r 
 count-refused a e = record { answer = λ o. absurd (let q = sym e ∙ a .answer (o .list) in let z : _≡_ {A = ℕ} 0 1 = cc in omega arith) }
 
 -- a refused count
-pub counted-none : {ws : List ℕ} {b : Expiring} {n : ℕ} {why : Refusal} → limitsOf (capacityOf b) (limitOf b) (length ws) ≡ Refused why → Counting ws b n (expired.Refused why)
+pub counted-none : {ws : List ℕ} {b : Expiring} {n : ℕ} {why : Refusal} → bookLimits (capacityOf b) (limitOf b) (length ws) ≡ Refused why → Counting ws b n (expired.Refused why)
 counted-none {ws} {b} e = record { outcome = sym e; answer = λ o. absurd (no-book ws b e o) }

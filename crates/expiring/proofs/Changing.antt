@@ -5,6 +5,7 @@ use mathlib.Core.List.{List}
 use Prim.Native.Nat.{ℕ, _^_, _<_, _≤_}
 use native.Mathlib.Omega.{arith}
 use lib.ListN.{length, getD}
+use Rattle.limits.specs.Limits.{bookLimits}
 use Rattle.time.specs.declared.tick.Tick.{Tick}
 use Rattle.time.specs.declared.refusal.Refusal.the-variants.{KeyLimitReached}
 use Rattle.time.specs.declared.refusal.Outcome.{Outcome}
@@ -24,7 +25,7 @@ use Rattle.expiring.specs.declared.expiring.Expiring.{Expiring}
 use Rattle.expiring.specs.declared.expiring.changes.Said.{Said}
 use Rattle.expiring_model.specs.declared.lifetimes.DefaultTtl.{DefaultTtl}
 use Rattle.expiring_model.specs.Model.{Call, Change, drop}
-use Rattle.expiring.specs.Book.{limitsOf, capacityOf, limitOf, IsBook}
+use Rattle.expiring.specs.Book.{capacityOf, limitOf, IsBook}
 use Rattle.expiring.specs.Calls.{Following}
 use Rattle.expiring.specs.Numbers.{lruIn, indexIn, bookIn, withLru, withDeadlines, withHeld, withExpiration, withBook}
 use Rattle.expiring_answers.specs.Answers.{ofFound, comeBy}
@@ -114,13 +115,13 @@ dropped-both ns ns₁ ns₂ {ws} {ws₁} {ws₂} {k} {x = x} o p =
 -- ---- calls
 -- a book that was read is the one that the numbers tell
 module _ (ns : List ℕ) {b : Expiring} (e : b ≡ bookIn ns) where
-  pub limits-in : (size : ℕ) {o o′ : Outcome} → o ≡ limitsOf (capacityOf b) (limitOf b) size → o ≡ o′ → limitsOf (capacityOf (bookIn ns)) (limitOf (bookIn ns)) size ≡ o′
-  limits-in size {o} {o′} l q = subst (λ b. limitsOf (capacityOf b) (limitOf b) size ≡ o′) e (sym l ∙ q)
+  pub limits-in : (size : ℕ) {o o′ : Outcome} → o ≡ bookLimits (capacityOf b) (limitOf b) size → o ≡ o′ → bookLimits (capacityOf (bookIn ns)) (limitOf (bookIn ns)) size ≡ o′
+  limits-in size {o} {o′} l q = subst (λ b. bookLimits (capacityOf b) (limitOf b) size ≡ o′) e (sym l ∙ q)
 
   pub default-in : {l : DefaultTtl} → b .«default_ttl» ≡ l → bookIn ns .«default_ttl» ≡ l
   default-in q = sym (ap (λ (b : Expiring). b .«default_ttl») e) ∙ q
 
-pub ready-in : (ns : List ℕ) {size : ℕ} → 12 ≤ length ns → limitsOf (capacityOf (bookIn ns)) (limitOf (bookIn ns)) size ≡ Done → Ready ns size
+pub ready-in : (ns : List ℕ) {size : ℕ} → 12 ≤ length ns → bookLimits (capacityOf (bookIn ns)) (limitOf (bookIn ns)) size ≡ Done → Ready ns size
 ready-in ns h l = record { numbers = h; room = limits-room _ _ _ l }
 
 -- fewer than twelve numbers, and enough of them

@@ -6,6 +6,7 @@ use mathlib.Core.List.{List, []}
 use Prim.Native.Nat.{ℕ, _-_, _^_, _<_}
 use lib.ListN.{length}
 use borrow.Author.Tests.{eq-eqb, ne-eqb}
+use Rattle.limits.specs.Limits.{bookLimits}
 use Rattle.time.specs.declared.tick.Tick.{Tick}
 use Rattle.time.specs.declared.tick.Remaining.{Remaining}
 use Rattle.time.specs.declared.tick.Remaining.the-variants as remaining
@@ -45,7 +46,7 @@ use Rattle.expiring.specs.declared.answers.Reply.{Reply}
 use Rattle.expiring.specs.declared.expiring.Expiring.{Expiring}
 use Rattle.expiring_model.specs.declared.lifetimes.DefaultTtl.the-variants as default
 use Rattle.expiring_model.specs.Model.{Call, contains, peek, get, insert, remove, clear, insertWithTtl, ttlStatus, setTtl, liveLen, expirations, nextDeadline, touch, recencyRank, popLru, peekLru, keep, set, drop, dropAll, isExpired, changeOf, storedAfter, expiredBy, answered, badNanos, valueUnlessExpired, itemIn, dueIn, rankIn, tell, statusIn, livesAt}
-use Rattle.expiring.specs.Book.{limitsOf, Room, capacityOf, limitOf, IsBook, modelOf}
+use Rattle.expiring.specs.Book.{Room, capacityOf, limitOf, IsBook, modelOf}
 use Rattle.expiring.specs.Calls.{Following}
 use Rattle.expiring_answers.specs.Answers.{ofFound, ofTold, ofOldest, ofDue, statusOf}
 use Rattle.expiring.specs.Steps.{withList, withIndex, withExpired, replying, storedOf, deadlinesOf, DeadlineOf, Expired, Stored, StoredCount, ExpiredCount, Moved, same, Dating, Inserting, Removing}
@@ -123,7 +124,7 @@ status-in none t = refl
 status-in (some p) t = refl
 
 -- ---- calls that are not turned back by a cause
-module _ (ws : List ℕ) (b : Expiring) (t : Tick) (limits : limitsOf (capacityOf b) (limitOf b) (length ws) ≡ Done) (word : b .expirations < 2 ^ 64) where
+module _ (ws : List ℕ) (b : Expiring) (t : Tick) (limits : bookLimits (capacityOf b) (limitOf b) (length ws) ≡ Done) (word : b .expirations < 2 ^ 64) where
   -- one that changes nothing
   module _ (c : Call) (nanos : badNanos c ≡ false) (change : (x y : ℕ) → changeOf t c (modelOf ws b x y) ≡ keep) (stored : (x y : ℕ) → storedAfter t c (modelOf ws b x y) ≡ storedOf ws b) (expired : (x y : ℕ) → expiredBy t c (modelOf ws b x y) ≡ 0) where
     follow-same : {u : Answer} → Accepted u → (IsBook ws b → (x y : ℕ) → answered t c (modelOf ws b x y) ≡ u) → Following ws b t c ws (replying b u)

@@ -7,6 +7,7 @@ use lib.ListN.{length}
 use lib.ListN as words
 use borrow.Author.Tests.{le-ltb}
 use borrow.Rule.Slice.PartMut.{midOf, putMid}
+use Rattle.limits.specs.Limits.{listLimits, bookLimits}
 use Rattle.time.specs.declared.duration.Ticked.{Ticked}
 use Rattle.time.specs.declared.duration.Ticked.the-variants as ticked
 use Rattle.time.specs.Duration.{ticksOf}
@@ -17,7 +18,6 @@ use Rattle.lazy_heap_model.specs.Model as heap
 use Rattle.lazy_heap.proofs.Laws as lazy
 use Rattle.lazy_heap.proofs.Parts.{part-length}
 use Rattle.fast_lru.specs.declared.answers.Opened as listed
-use Rattle.fast_lru.specs.Refusals as list
 use Rattle.fast_lru.specs.Lru as lru
 use Rattle.fast_lru.specs.Calls as lists
 use Rattle.fast_lru.proofs.Laws as listLaws
@@ -32,7 +32,7 @@ use Rattle.expiring.specs.declared.expiring.Defaulted.the-variants as de
 use Rattle.expiring_model.specs.declared.lifetimes.DefaultDuration.the-variants as asked
 use Rattle.expiring.specs.declared.expiring.Opened as expiring
 use Rattle.expiring_model.specs.Model.{fresh}
-use Rattle.expiring.specs.Book.{start, limitsOf, Room, limitOf, rest, heapOf, modelOf}
+use Rattle.expiring.specs.Book.{start, Room, limitOf, rest, heapOf, modelOf}
 use Rattle.expiring.specs.Calls.{noBook, byTicks as outcomeOf, byDuration, openingOf, Opening}
 use Rattle.expiring_model.specs.Model.{ofTicks, defaultOf}
 use Rattle.expiring.specs.Steps.{byTicks, defaultedBy, Opened}
@@ -40,8 +40,8 @@ use Rattle.expiring.proofs.Frames.{rest-back, rest-length, rest-before,
 use Rattle.expiring.proofs.Acting.{same-book}
 use Rattle.expiring.proofs.Limits.{refused-done}
 
-list-open : {l c d : ℕ} → Room l c d → list.opening c l ≡ Done
-unfolding list.opening
+list-open : {l c d : ℕ} → Room l c d → listLimits c l ≡ Done
+unfolding listLimits
 list-open {l} {c} r = rw (le-ltb 4096 c (r .capacity), le-ltb l (64 + 8 * c) (omega (arith, r .words)))
 
 module _ {ws ws₁ ys : List ℕ} (c d s : ℕ) (l : DefaultTtl) {x : listed.Opened} {y : indexed.Opened} (room : Room (length ws) c d) (o : lists.Opening ws c ws₁ x) (p : calls.Opening (midOf (start c) (length ws₁ - start c) ws₁) d s ys y) where
@@ -51,7 +51,7 @@ module _ {ws ws₁ ys : List ℕ} (c d s : ℕ) (l : DefaultTtl) {x : listed.Ope
   opened : y .outcome ≡ Done
   opened = p .outcome ∙ lazy.room-limits (record { some = room .some; limit = room .limit; words = omega (arith, part-length ws₁ (start c) (length ws₁) fits (omega arith), o .kept .size, room .words) })
 
-  accepted : list.opening c (length ws) ≡ Done
+  accepted : listLimits c (length ws) ≡ Done
   accepted = list-open room
 
   capacity : x .lru .map .capacity ≡ c
@@ -117,11 +117,11 @@ module _ (ws : List ℕ) (c d s : ℕ) (l : DefaultDuration) where
     kept = kept-same c d ws;
   }
 
-  pub opening-limits : {why : Refusal} → limitsOf c d (length ws) ≡ Refused why → Opening ws c d s l ws (record { book = noBook; outcome = Refused why })
+  pub opening-limits : {why : Refusal} → bookLimits c d (length ws) ≡ Refused why → Opening ws c d s l ws (record { book = noBook; outcome = Refused why })
   unfolding openingOf
   opening-limits e = opening-refused (rw e)
 
-  module _ (limits : limitsOf c d (length ws) ≡ Done) where
+  module _ (limits : bookLimits c d (length ws) ≡ Done) where
     pub opening-nanos : {why : Refusal} → defaultedBy l ≡ defaulted.Refused why → Opening ws c d s l ws (record { book = noBook; outcome = Refused why })
     unfolding openingOf
     opening-nanos e = opening-refused (rw limits (by-duration l e))

@@ -6,6 +6,7 @@ use mathlib.Core.Option.{Option, none, some}
 use Prim.Native.Nat.{ℕ, _+_, _-_, _<_, _≤_}
 use native.Mathlib.Omega.{arith}
 use lib.ListN.{length}
+use Rattle.limits.specs.Limits.{bookLimits}
 use Rattle.time.specs.declared.tick.Tick.{Tick}
 use Rattle.time.specs.declared.refusal.Outcome.the-variants.{Done}
 use Rattle.lazy_heap_model.specs.Model.{popped}
@@ -20,7 +21,7 @@ use Rattle.expiring.specs.declared.expiring.Expiring.{Expiring}
 use Rattle.expiring.specs.declared.expiring.Popped.{Popped}
 use Rattle.expiring_model.specs.Model.{purgeExpired, dropExpired, changeOf, pairsAfter, withoutExpired, storedAfter, expiredBy, answered, badNanos}
 use Rattle.expiring_model.specs.Discards.{discards, heapAfter}
-use Rattle.expiring.specs.Book.{limitsOf, Room, capacityOf, limitOf, IsBook, heapOf, modelOf, Kept}
+use Rattle.expiring.specs.Book.{Room, capacityOf, limitOf, IsBook, heapOf, modelOf, Kept}
 use Rattle.expiring.specs.Calls.{Following}
 use Rattle.expiring.specs.Steps.{saturatingSum, purging, storedOf, deadlinesOf, Moved, isSome, lessValue, PoppingExpired}
 use Rattle.expiring.proofs.Frames.{kept-same, kept-then}
@@ -178,14 +179,14 @@ module _ {ws ws₁ : List ℕ} {b b₁ : Expiring} {t : Tick} {n s left : ℕ} (
   }
 
 -- ---- at its end it follows the model
-purge-follows : {ws ws′ : List ℕ} {b b′ : Expiring} {t : Tick} (n stale : ℕ) → limitsOf (capacityOf b) (limitOf b) (length ws) ≡ Done → Moved ws b (dropExpired t) (withoutExpired t (deadlinesOf ws b)) ws′ b′ (saturatingSum n stale) → (IsBook ws b → n ≡ expiredCount t (deadlinesOf ws b)) → Following ws b t purgeExpired ws′ (purging b′ n stale)
+purge-follows : {ws ws′ : List ℕ} {b b′ : Expiring} {t : Tick} (n stale : ℕ) → bookLimits (capacityOf b) (limitOf b) (length ws) ≡ Done → Moved ws b (dropExpired t) (withoutExpired t (deadlinesOf ws b)) ws′ b′ (saturatingSum n stale) → (IsBook ws b → n ≡ expiredCount t (deadlinesOf ws b)) → Following ws b t purgeExpired ws′ (purging b′ n stale)
 unfolding modelOf changeOf storedAfter expiredBy answered badNanos
 purge-follows {ws = ws} {b = b} {t = t} n stale limits moved count =
     follow ws b t purgeExpired limits refl
     (acting-expired moved (λ is. refl) n (count-accepted n) (λ is. refl) count (λ is. ap answers.Count (count is)))
     (λ is x y. refl) (λ is x y. refl) (λ is x y. refl) (λ is x y. refl)
 
-module _ {ws ws₁ : List ℕ} {b b₁ : Expiring} {t : Tick} {n s left : ℕ} (limits : limitsOf (capacityOf b) (limitOf b) (length ws) ≡ Done) (so-far : Progress ws b t ws₁ b₁ n s left) where
+module _ {ws ws₁ : List ℕ} {b b₁ : Expiring} {t : Tick} {n s left : ℕ} (limits : bookLimits (capacityOf b) (limitOf b) (length ws) ≡ Done) (so-far : Progress ws b t ws₁ b₁ n s left) where
   -- with none left to take
   pub purge-ends : {ws₂ : List ℕ} {r : Popped} → PoppingExpired ws₁ b₁ t ws₂ r → r .«is_popped» ≡ false → Following ws b t purgeExpired ws₂ (purging (r .book) n (saturatingSum s (r .stale)))
   purge-ends {r = r} o end = purge-follows n (saturatingSum s (r .stale)) limits (purge-moved so-far o end) (purge-count so-far o end)

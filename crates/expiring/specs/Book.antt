@@ -1,13 +1,8 @@
 -- What a book in words is, and which model it stands for.
 use mathlib.Core.Path.{_≡_}
-use mathlib.Core.Bool.{cond}
 use mathlib.Core.List.{List}
 use Prim.Native.Nat.{ℕ, _+_, _*_, _≤_}
-use lib.Dec.{eqb, ltb}
 use lib.ListN.{length, getD, drop}
-use Rattle.time.specs.declared.refusal.Outcome.{Outcome}
-use Rattle.time.specs.declared.refusal.Outcome.the-variants.{Done, Refused}
-use Rattle.time.specs.declared.refusal.Refusal.the-variants.{LimitOutOfRange, TooFewWords}
 use Rattle.lazy_heap_model.specs.Model.{Heap}
 use Rattle.fast_lru.specs.Lru as list
 use Rattle.expiration_index.specs.Index as index
@@ -21,16 +16,7 @@ wordsFor c d = 128 + 8 * c + 32 * d
 abbrev pub start : ℕ → ℕ
 start c = 64 + 8 * c
 
--- refusals 1 and 2. (A refused opening's numbers are all 0, and 0 is no limit of deadlines.)
-unfoldable pub limitsOf : ℕ → ℕ → ℕ → Outcome
-limitsOf c d size =
-    cond (ltb 4096 c)
-    (Refused LimitOutOfRange)
-    (cond (eqb d 0)
-    (Refused LimitOutOfRange)
-    (cond (ltb 4096 d) (Refused LimitOutOfRange) (cond (ltb size (wordsFor c d)) (Refused TooFewWords) Done)))
-
--- no cause, as facts
+-- `bookLimits` refuses nothing, as facts
 pub record Room (l c d : ℕ) : Type 0 where
   pub capacity : c ≤ 4096
   pub some : 1 ≤ d

@@ -5,6 +5,7 @@ use mathlib.Core.Logic.{_⊎_}
 use mathlib.Core.List.{List}
 use Prim.Native.Nat.{ℕ}
 use lib.ListN.{length}
+use Rattle.limits.specs.Limits.{bookLimits}
 use Rattle.time.specs.declared.tick.Tick.{Tick}
 use Rattle.time.specs.declared.duration.Ticked.{Ticked}
 use Rattle.time.specs.declared.duration.Ticked.the-variants as ticked
@@ -31,7 +32,7 @@ use Rattle.expiring_model.specs.declared.lifetimes.DefaultDuration.{DefaultDura
 use Rattle.expiring_model.specs.declared.lifetimes.DefaultDuration.the-variants as asked
 use Rattle.expiring_model.specs.Model.{Call, setTtl, defaultOf, fresh, badNanos, answerOf, bookAfter}
 use Rattle.expiring_model.specs.Discards.{discardedBy, heapBy}
-use Rattle.expiring.specs.Book.{limitsOf, capacityOf, limitOf, IsBook, heapOf, modelOf, Kept}
+use Rattle.expiring.specs.Book.{capacityOf, limitOf, IsBook, heapOf, modelOf, Kept}
 
 -- the numbers of a refused opening
 abbrev pub noBook : Expiring
@@ -43,7 +44,7 @@ andNanos (Refused why) bad = Refused why
 andNanos Done bad = cond bad (Refused InvalidNanos) Done
 
 unfoldable pub causeOf : Expiring → ℕ → Call → Outcome
-causeOf b size c = andNanos (limitsOf (capacityOf b) (limitOf b) size) (badNanos c)
+causeOf b size c = andNanos (bookLimits (capacityOf b) (limitOf b) size) (badNanos c)
 
 -- what every call promises: on any words and numbers refusals 1, 2 and 3 under their causes alone, and that no refusal
 -- changes anything; on a book, the answer, the model and the heap after it and the discarded count, whatever was replaced
@@ -74,7 +75,7 @@ andThen Done o = o
 
 -- refusals 1, 2 and 3
 unfoldable pub openingOf : ℕ → ℕ → ℕ → DefaultDuration → Outcome
-openingOf c d size l = andThen (limitsOf c d size) (byDuration l)
+openingOf c d size l = andThen (bookLimits c d size) (byDuration l)
 
 -- the fresh book, whatever the words held before
 pub record Opening (ws : List ℕ) (c d s : ℕ) (l : DefaultDuration) (ws′ : List ℕ) (r : Opened) : Type 0 where
@@ -92,7 +93,7 @@ pub record Checking (ws : List ℕ) (b : Expiring) (r : Bool) : Type 0 where
 
 -- a count of what the book holds, or refusals 1 and 2
 pub record Counting (ws : List ℕ) (b : Expiring) (value : ℕ) (r : Count) : Type 0 where
-  pub outcome : ofCount r ≡ limitsOf (capacityOf b) (limitOf b) (length ws)
+  pub outcome : ofCount r ≡ bookLimits (capacityOf b) (limitOf b) (length ws)
   pub answer : IsBook ws b → r ≡ count.Number value
 
 -- `deadlines_held`

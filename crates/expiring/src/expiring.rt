@@ -2,9 +2,10 @@
 ghost use mathlib.Core.Path.{_≡_};
 ghost use lib.ListN.{length};
 ghost use Rattle.time.specs.declared.refusal.Outcome.the-variants.{Refused};
+ghost use Rattle.limits.specs.Limits.{bookLimits};
 ghost use Rattle.expiring_model.specs.declared.answers.Answer.the-variants as answers;
 ghost use Rattle.expiring_model.specs.Model.{contains, peek, get, insert, remove, clear, insertWithTtl, ttlStatus, setTtl, purgeExpired, liveLen, expirations, nextDeadline, touch, recencyRank, popLru, peekLru, dropAll};
-ghost use Rattle.expiring.specs.Book.{Room, limitsOf, capacityOf, limitOf};
+ghost use Rattle.expiring.specs.Book.{Room, capacityOf, limitOf};
 ghost use Rattle.expiring.specs.Calls.{noBook, Following, Opening, Checking, DeadlinesHeld, HeapLength};
 ghost use Rattle.expiring.specs.Steps.{defaultedBy, saturatingSum, withList, withIndex, withExpired, replying, purging, DeadlineOf, Expired, Stored, StoredCount, ExpiredCount, Moved, same, PoppingExpired};
 ghost use Rattle.expiring.specs.Steps as steps;
@@ -62,25 +63,6 @@ struct Popped {
     book: Expiring,
     is_popped: bool,
     stale: u64,
-}
-
-// Refusals 1 and 2, of a capacity, a limit of deadlines and a number of words.
-fn limits(capacity: usize, limit: usize, size: usize) -> Outcome
-    ensures { λ r. ⌜ r ≡ limitsOf capacity limit size ⌝ }
-{
-    if 4096 < capacity {
-        return Outcome::Refused(Refusal::LimitOutOfRange);
-    }
-    if limit == 0 {
-        return Outcome::Refused(Refusal::LimitOutOfRange);
-    }
-    if 4096 < limit {
-        return Outcome::Refused(Refusal::LimitOutOfRange);
-    }
-    if size < 128 + 8 * capacity + 32 * limit {
-        return Outcome::Refused(Refusal::TooFewWords);
-    }
-    Outcome::Done
 }
 
 fn saturating_sum(a: u64, b: u64) -> u64
@@ -177,7 +159,7 @@ impl Expiring {
     ) -> Opened
         ensures { λ r. ⌜ Opening (now (words .entry)) capacity limit seq «default_ttl» (now (words .exit)) r ⌝ }
     {
-        match limits(capacity, limit, words.len()) {
+        match limits::book(capacity, limit, words.len()) {
             Outcome::Refused(why) => refused_opening(why),
             Outcome::Done => match default_of(default_ttl) {
                 Defaulted::Refused(why) => refused_opening(why),
@@ -453,9 +435,9 @@ impl Expiring {
     // ---- replies
 
     fn limits(self, size: usize) -> Outcome
-        ensures { λ r. ⌜ r ≡ limitsOf (capacityOf self) (limitOf self) size ⌝ }
+        ensures { λ r. ⌜ r ≡ bookLimits (capacityOf self) (limitOf self) size ⌝ }
     {
-        limits(
+        limits::book(
             self.inner.map.capacity,
             self.index.heap.scores.capacity,
             size,

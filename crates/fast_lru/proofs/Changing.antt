@@ -5,6 +5,7 @@ use mathlib.Core.Option.{Option, none, some}
 use Prim.Native.Nat.{ℕ}
 use native.Mathlib.Omega.{arith}
 use lib.ListN.{length}
+use Rattle.limits.specs.Limits.{listLimits}
 use Rattle.time.specs.declared.refusal.Refusal.{Refusal}
 use Rattle.time.specs.declared.refusal.Outcome.the-variants.{Done, Refused}
 use Rattle.linked_hash_map.specs.declared.map.Record.{Record}
@@ -27,7 +28,7 @@ use Rattle.fast_lru.specs.declared.answers.Told.{Told}
 use Rattle.fast_lru.specs.declared.answers.Told.the-variants as told
 use Rattle.fast_lru.specs.declared.answers.Got.{Got}
 use Rattle.fast_lru.specs.declared.answers.Popped.{Popped}
-use Rattle.fast_lru.specs.Refusals.{opening, blank, admitted}
+use Rattle.fast_lru.specs.Refusals.{blank, admitted}
 use Rattle.fast_lru.specs.Model.{Item, Items, lookup, valueIn, valueOf, toFront, tell, last, oldestOf, popped}
 use Rattle.fast_lru.specs.Lru.{itemOf, items, modelOf}
 use Rattle.fast_lru.specs.Steps.{nth, taking, isAt, lessItem, ValueAt, Picking, Taking, Placing}
@@ -39,7 +40,7 @@ use Rattle.fast_lru.proofs.Taking.{model-without, less-item}
 use Rattle.fast_lru.proofs.Reading.{told-never}
 
 -- ---- `new` and `clear`
-pub opening-refused : (ws : List ℕ) (c : ℕ) (why : Refusal) → opening c (length ws) ≡ Refused why → Opening ws c ws (record { lru = blank; answer = Refused why })
+pub opening-refused : (ws : List ℕ) (c : ℕ) (why : Refusal) → listLimits c (length ws) ≡ Refused why → Opening ws c ws (record { lru = blank; answer = Refused why })
 opening-refused ws c why p = record {
   refused = λ w e. let s : why ≡ w = cc in (ap (λ (y : Refusal). record { lru = blank; answer = Refused y }) s, refl);
   answer = sym p;
@@ -49,7 +50,7 @@ opening-refused ws c why p = record {
   kept = kept-same c ws;
 }
 
-pub opening-done : (ws : List ℕ) (c : ℕ) (ws′ : List ℕ) (r : map-opened.Opened) → opening c (length ws) ≡ Done → calls.Opening ws c ws′ r → Opening ws c ws′ (record { lru = record { map = r .map }; answer = Done })
+pub opening-done : (ws : List ℕ) (c : ℕ) (ws′ : List ℕ) (r : map-opened.Opened) → listLimits c (length ws) ≡ Done → calls.Opening ws c ws′ r → Opening ws c ws′ (record { lru = record { map = r .map }; answer = Done })
 unfolding modelOf
 opening-done ws c ws′ r d o =
     let f = opening-fits c (length ws) d in

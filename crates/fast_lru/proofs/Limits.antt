@@ -11,36 +11,28 @@ use Rattle.time.specs.declared.refusal.Refusal.{Refusal}
 use Rattle.time.specs.declared.refusal.Outcome.{Outcome}
 use Rattle.time.specs.declared.refusal.Outcome.the-variants.{Done, Refused}
 use Rattle.time.specs.declared.refusal.Refusal.the-variants.{LimitOutOfRange, TooFewWords}
+use Rattle.limits.specs.Limits.{mapFits, listLimits}
 use Rattle.linked_hash_map.specs.Words as words
 use Rattle.linked_hash_map.specs.Map.{IsMap}
 use Rattle.fast_lru.specs.declared.lru.FastLru.{FastLru}
-use Rattle.fast_lru.specs.Refusals.{wordsFor, opening, outOfRange, admitted}
+use Rattle.fast_lru.specs.Refusals.{wordsFor, outOfRange, admitted}
 use Rattle.fast_lru.specs.Lru.{IsList, Kept}
 
 -- what is done is not refused
 pub done : {o : Outcome} {why : Refusal} → o ≡ Done → o ≡ Refused why → ⊥
 done p q = let z : _≡_ {A = ℕ} 0 1 = cc in omega arith
 
--- ---- causes 1 and 2, test by test
-module _ (c size : ℕ) where
-  pub opening-high : 4096 < c → opening c size ≡ Refused LimitOutOfRange
-  unfolding opening
-  opening-high h = rw (lt-ltb 4096 c h)
-
-  pub opening-short : c ≤ 4096 → size < wordsFor c → opening c size ≡ Refused TooFewWords
-  unfolding opening
-  opening-short h s = rw (le-ltb 4096 c h, lt-ltb size (wordsFor c) s)
-
-  pub opening-room : c ≤ 4096 → wordsFor c ≤ size → opening c size ≡ Done
-  unfolding opening
-  opening-room h s = rw (le-ltb 4096 c h, le-ltb size (wordsFor c) s)
+-- ---- causes 1 and 2
+pub opening-room : (c size : ℕ) → c ≤ 4096 → wordsFor c ≤ size → listLimits c size ≡ Done
+unfolding listLimits
+opening-room c size h s = rw (le-ltb 4096 c h, le-ltb size (wordsFor c) s)
 
 module _ (l : FastLru) (size : ℕ) where
   pub admitted-out : outOfRange l ≡ true → admitted l size ≡ Refused LimitOutOfRange
   unfolding admitted
   admitted-out e = rw e
 
-  pub admitted-in : outOfRange l ≡ false → admitted l size ≡ opening (l .map .capacity) size
+  pub admitted-in : outOfRange l ≡ false → admitted l size ≡ listLimits (l .map .capacity) size
   unfolding admitted
   admitted-in e = rw e
 
@@ -49,8 +41,8 @@ pub record Fits (c size : ℕ) : Type 0 where
   pub limit : c ≤ 4096
   pub words : wordsFor c ≤ size
 
-pub opening-fits : (c size : ℕ) → opening c size ≡ Done → Fits c size
-unfolding opening
+pub opening-fits : (c size : ℕ) → listLimits c size ≡ Done → Fits c size
+unfolding listLimits
 opening-fits c size e = go (ltb 4096 c) refl (ltb size (wordsFor c)) refl e
   where
     go : (a : Bool) → ltb 4096 c ≡ a → (b : Bool) → ltb size (wordsFor c) ≡ b → cond a (Refused LimitOutOfRange) (cond b (Refused TooFewWords) Done) ≡ Done → Fits c size
@@ -62,13 +54,13 @@ pub admitted-fits : (l : FastLru) (size : ℕ) → admitted l size ≡ Done → 
 unfolding admitted
 admitted-fits l size e = go (outOfRange l) e
   where
-    go : (a : Bool) → cond a (Refused LimitOutOfRange) (opening (l .map .capacity) size) ≡ Done → Fits (l .map .capacity) size
+    go : (a : Bool) → cond a (Refused LimitOutOfRange) (listLimits (l .map .capacity) size) ≡ Done → Fits (l .map .capacity) size
     go true t = absurd (done t refl)
     go false t = opening-fits _ _ t
 
 -- what fits the list fits the map
-pub fits-map : {c size : ℕ} → Fits c size → words.fit c size ≡ true
-unfolding words.fit
+pub fits-map : {c size : ℕ} → Fits c size → mapFits c size ≡ true
+unfolding mapFits
 fits-map {c} {size} f = rw (le-leb c 4096 (f .limit), le-leb (8 * c + 58) size (omega (arith, f .words)))
 
 -- ---- cause 1 at the later calls, test by test

@@ -8,6 +8,7 @@ use lib.Dec.{eqb}
 use lib.ListN.{length}
 use Rattle.time.specs.declared.refusal.Refusal.{Refusal}
 use Rattle.time.specs.declared.refusal.Outcome.the-variants.{Done, Refused}
+use Rattle.limits.specs.Limits.{listLimits}
 use Rattle.fast_lru.specs.declared.lru.FastLru.{FastLru}
 use Rattle.fast_lru.specs.declared.answers.Found.{Found}
 use Rattle.fast_lru.specs.declared.answers.Found.the-variants as found
@@ -23,17 +24,17 @@ use Rattle.fast_lru.specs.declared.answers.Got.{Got}
 use Rattle.fast_lru.specs.declared.answers.Popped.{Popped}
 use Rattle.fast_lru.specs.declared.answers.Touched.{Touched}
 use Rattle.fast_lru.specs.declared.answers.Ranked.{Ranked}
-use Rattle.fast_lru.specs.Refusals.{opening, blank, admitted}
+use Rattle.fast_lru.specs.Refusals.{blank, admitted}
 use Rattle.fast_lru.specs.Model.{Item, has, without, tell, valueOf, toFront, inserted, oldestOf, popped, rankOf}
 use Rattle.fast_lru.specs.Lru.{IsList, modelOf, Kept}
 
 -- `new`: the empty list, whatever the words held
 pub record Opening (ws : List ℕ) (c : ℕ) (ws′ : List ℕ) (r : Opened) : Type 0 where
-  pub refused : (why : Refusal) → opening c (length ws) ≡ Refused why → (r ≡ record { lru = blank; answer = Refused why }) × (ws′ ≡ ws)
-  pub answer : r .answer ≡ opening c (length ws)
-  pub capacity : opening c (length ws) ≡ Done → r .lru .map .capacity ≡ c
-  pub list : opening c (length ws) ≡ Done → IsList ws′ (r .lru)
-  pub model : opening c (length ws) ≡ Done → modelOf ws′ (r .lru) ≡ []
+  pub refused : (why : Refusal) → listLimits c (length ws) ≡ Refused why → (r ≡ record { lru = blank; answer = Refused why }) × (ws′ ≡ ws)
+  pub answer : r .answer ≡ listLimits c (length ws)
+  pub capacity : listLimits c (length ws) ≡ Done → r .lru .map .capacity ≡ c
+  pub list : listLimits c (length ws) ≡ Done → IsList ws′ (r .lru)
+  pub model : listLimits c (length ws) ≡ Done → modelOf ws′ (r .lru) ≡ []
   pub kept : Kept c ws ws′
 
 -- `clear`: the empty list of the same capacity. Words that are no list need not become one: that is what `new` does.

@@ -1,7 +1,6 @@
 // The recency list's calls. Each asks first whether it is refused, and then leaves the work to the map.
 ghost use mathlib.Core.Path.{_≡_};
 ghost use Rattle.fast_lru.specs.Refusals.{outOfRange, admitted};
-ghost use Rattle.fast_lru.specs.Refusals as refusals;
 ghost use Rattle.fast_lru.specs.Model.{tell};
 ghost use Rattle.fast_lru.specs.Calls.{Opening, Clearing, Length, Emptiness, Capacity, Containing, Getting, Peeking, Inserting, Removing, Popping, PeekingOldest, Touching, Ranking, Checking};
 ghost use Rattle.fast_lru.specs.Steps.{isAt, ValueAt, ItemAt, Picking, Choosing, Taking, PlacingFull, Placing, RankBetween, RankFrom, RankOf};
@@ -29,19 +28,6 @@ pub struct FastLru {
 
 const MAX_CAPACITY: usize = 4096;
 
-// Refusals 1 and 2, in this order.
-fn opening(capacity: usize, size: usize) -> Outcome
-    ensures { λ r. ⌜ r ≡ refusals.opening capacity size ⌝ }
-{
-    if MAX_CAPACITY < capacity {
-        return Outcome::Refused(Refusal::LimitOutOfRange);
-    }
-    if size < 64 + 8 * capacity {
-        return Outcome::Refused(Refusal::TooFewWords);
-    }
-    Outcome::Done
-}
-
 // Whether the map has a slot for an item. (Its own refusals come after ours, so that none is ever met.)
 fn is_slot(slot: Slot) -> Told
     ensures { λ r. ⌜ r ≡ tell (isAt slot) ⌝ }
@@ -58,7 +44,7 @@ impl FastLru {
     pub fn new(words: &mut [u64], capacity: usize) -> Opened
         ensures { λ r. ⌜ Opening (now (words .entry)) capacity (now (words .exit)) r ⌝ }
     {
-        match opening(capacity, words.len()) {
+        match limits::list(capacity, words.len()) {
             Outcome::Refused(why) => Opened {
                 lru: FastLru {
                     map: LinkedHashMap {
@@ -105,7 +91,7 @@ impl FastLru {
         }
         let map = self.map;
         let capacity = map.capacity;
-        opening(capacity, size)
+        limits::list(capacity, size)
     }
 
     pub fn len(self, words: &[u64]) -> Count

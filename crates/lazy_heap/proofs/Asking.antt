@@ -8,6 +8,7 @@ use Prim.Native.Nat.{ℕ, _<_}
 use native.Mathlib.Omega.{arith}
 use lib.ListN.{length}
 use borrow.Author.Tests.{eq-eqb, ne-eqb, lt-leb}
+use Rattle.limits.specs.Limits.{heapLimits}
 use Rattle.binary_heap.specs.declared.entries.Entry.{Entry}
 use Rattle.binary_heap.specs.Order.{le, Sorted}
 use Rattle.binary_heap.proofs.Laws.{le-scores, count-mem, model-length as array-length}
@@ -18,7 +19,7 @@ use Rattle.time.specs.declared.refusal.Outcome.the-variants.{Done, Refused}
 use Rattle.lazy_heap.specs.declared.heap.LazyMinHeap.{LazyMinHeap}
 use Rattle.lazy_heap.specs.declared.heap.Number.the-variants as number
 use Rattle.lazy_heap.specs.declared.heap.Flag.the-variants as flag
-use Rattle.lazy_heap.specs.Words.{part, limitsOf}
+use Rattle.lazy_heap.specs.Words.{part}
 use Rattle.lazy_heap_model.specs.Model.{Heap, entryOf, len, heapLen, countAtMost, atMost}
 use Rattle.lazy_heap.specs.Valid.{Valid}
 use Rattle.lazy_heap.specs.Heap.{modelOf}
@@ -60,10 +61,10 @@ module _ {ws : List ℕ} {h : LazyMinHeap} where
     answer = λ p v. c .answer p ∙ live-at-most (modelOf ws h) v s (array-length (part (h .scores .capacity) ws) (h .entries) ∙ e ∙ sym (model-length ws (h .scores)));
   }
 
-  pub asking-refused : {value : Heap → ℕ} {why : Refusal} → limitsOf (h .scores .capacity) (length ws) ≡ Refused why → Asking ws h value (number.Refused why)
+  pub asking-refused : {value : Heap → ℕ} {why : Refusal} → heapLimits (h .scores .capacity) (length ws) ≡ Refused why → Asking ws h value (number.Refused why)
   asking-refused e = record { outcome = sym e; answer = λ is. absurd (no-heap e is) }
 
-  module _ (t : limitsOf (h .scores .capacity) (length ws) ≡ Done) where
+  module _ (t : heapLimits (h .scores .capacity) (length ws) ≡ Done) where
     pub asking-value : {value : Heap → ℕ} {n : ℕ} → n ≡ value (modelOf ws h) → Asking ws h value (number.Value n)
     asking-value e = record { outcome = sym t; answer = λ is. ap number.Value e }
 

@@ -5,6 +5,7 @@ use Prim.Native.Nat.{ℕ, _<_, _≤_}
 use native.Mathlib.Omega.{arith}
 use lib.ListN.{length}
 use borrow.Author.Tests.{le-leb, lt-leb}
+use Rattle.limits.specs.Limits.{heapLimits}
 use Rattle.binary_heap.specs.declared.entries.Entry.{Entry}
 use Rattle.binary_heap.specs.declared.heap.Top.{Top}
 use Rattle.binary_heap.specs.declared.heap.Top.the-variants as top
@@ -18,7 +19,7 @@ use Rattle.lazy_heap.specs.declared.heap.Step.{Step}
 use Rattle.lazy_heap_model.specs.declared.scores.Best.{Best}
 use Rattle.lazy_heap_model.specs.declared.scores.Best.the-variants as best
 use Rattle.lazy_heap.specs.Answers.{ofBest}
-use Rattle.lazy_heap.specs.Words.{limitsOf, Kept}
+use Rattle.lazy_heap.specs.Words.{Kept}
 use Rattle.lazy_heap_model.specs.Model.{Heap, bestIn, fromLive, stale, removed, peeked, popped, poppedFrom}
 use Rattle.lazy_heap.specs.Valid.{Valid}
 use Rattle.lazy_heap.specs.Heap.{heldOf, entriesOf, modelOf, Parts, IsHeap}
@@ -56,7 +57,7 @@ fair-popped {m} f = go (fromLive (m .held) (m .entries)) refl
       factor = f .factor;
     }
 
-module _ {ws ws₁ : List ℕ} {h : LazyMinHeap} {s : Step} {t : Top} (d : Discarding ws h ws₁ s) (k : Peeking ws₁ (s .heap) t) (ok : limitsOf (h .scores .capacity) (length ws) ≡ Done) where
+module _ {ws ws₁ : List ℕ} {h : LazyMinHeap} {s : Step} {t : Top} (d : Discarding ws h ws₁ s) (k : Peeking ws₁ (s .heap) t) (ok : heapLimits (h .scores .capacity) (length ws) ≡ Done) where
   abbrev from : List Entry
   from = fromLive (heldOf ws h) (entriesOf ws h)
 

@@ -6,6 +6,7 @@ use Prim.Native.Nat.{ℕ, _+_, _-_, _*_, _<_, _≤_}
 use native.Mathlib.Omega.{arith}
 use lib.ListN.{length}
 use borrow.Author.Tests.{eq-eqb, ne-eqb, lt-ltb, le-ltb, le-leb}
+use Rattle.limits.specs.Limits.{mapFits, heapLimits, heapLimitsWith}
 use Rattle.rings.proofs.Counts.{by-lt}
 use Rattle.binary_heap.specs.Heap as array
 use Rattle.binary_heap.proofs.Laws.{heap-none, model-none}
@@ -15,7 +16,6 @@ use Rattle.linked_hash_map.specs.declared.map.Opened as mapOpened
 use Rattle.linked_hash_map.specs.declared.map.Removed.{Removed}
 use Rattle.linked_hash_map.specs.declared.map.Taken.{Taken}
 use Rattle.linked_hash_map.specs.declared.map.Taken.the-variants as taken
-use Rattle.linked_hash_map.specs.Words.{fit}
 use Rattle.linked_hash_map.specs.Calls as scores
 use Rattle.time.specs.declared.refusal.Refusal.{Refusal}
 use Rattle.time.specs.declared.refusal.Refusal.the-variants.{LimitOutOfRange, TooFewWords, FactorTooLarge}
@@ -25,7 +25,7 @@ use Rattle.lazy_heap.specs.declared.heap.LazyMinHeap.{LazyMinHeap}
 use Rattle.lazy_heap.specs.declared.heap.Step.{Step}
 use Rattle.lazy_heap_model.specs.declared.scores.Score.{Score}
 use Rattle.lazy_heap.specs.Answers.{ofScore}
-use Rattle.lazy_heap.specs.Words.{wordsFor, start, part, limitsOf, limitsWith, Room, Kept}
+use Rattle.lazy_heap.specs.Words.{wordsFor, start, part, Room, Kept}
 use Rattle.lazy_heap_model.specs.Model.{Heap, atLeastOne, surplus, tooMany, heldScore, opened, withFactor, removed, peeked, rebuilt, maybeRebuilt, numbered, renumbered, cleared}
 use Rattle.lazy_heap.specs.Valid.{Valid}
 use Rattle.lazy_heap.specs.Heap.{modelOf, Parts, IsHeap}
@@ -39,39 +39,35 @@ use Rattle.lazy_heap.proofs.Stepping.{same-heap, same-capacity, surplus
 pub refused-done : (why : Refusal) → _≡_ {A = Outcome} (Refused why) Done → ⊥
 refused-done why e = let z : _≡_ {A = ℕ} 0 1 = cc in omega arith
 
-pub limits-room : (n l : ℕ) → limitsOf n l ≡ Done → Room l n
-unfolding limitsOf
+pub limits-room : (n l : ℕ) → heapLimits n l ≡ Done → Room l n
+unfolding heapLimits
 limits-room n l e =
     by-lt 0 n
     (λ a. by-lt 4096 n (λ b. absurd (refused-done LimitOutOfRange (sym (rw (ne-eqb n 0 (λ q. omega arith), lt-ltb 4096 n b)) ∙ e))) (λ b. by-lt l (wordsFor n) (λ d. absurd (refused-done TooFewWords (sym (rw (ne-eqb n 0 (λ q. omega arith), le-ltb 4096 n b, lt-ltb l (wordsFor n) d)) ∙ e))) (λ d. record { some = omega arith; limit = b; words = d })))
     (λ a. absurd (refused-done LimitOutOfRange (sym (rw (eq-eqb n 0 (omega arith))) ∙ e)))
 
-pub room-limits : {n l : ℕ} → Room l n → limitsOf n l ≡ Done
-unfolding limitsOf
+pub room-limits : {n l : ℕ} → Room l n → heapLimits n l ≡ Done
+unfolding heapLimits
 room-limits {n} {l} g = rw (ne-eqb n 0 (λ q. omega (arith, g .some)), le-ltb 4096 n (g .limit), le-ltb l (wordsFor n) (g .words))
 
-pub no-heap : {ws : List ℕ} {h : LazyMinHeap} {why : Refusal} → limitsOf (h .scores .capacity) (length ws) ≡ Refused why → IsHeap ws h → ⊥
+pub no-heap : {ws : List ℕ} {h : LazyMinHeap} {why : Refusal} → heapLimits (h .scores .capacity) (length ws) ≡ Refused why → IsHeap ws h → ⊥
 no-heap {ws} {h} {why} e is = refused-done why (sym e ∙ room-limits (is .parts .room))
 
 module _ (n l f : ℕ) where
-  pub with-refused : {why : Refusal} → limitsOf n l ≡ Refused why → Refused why ≡ limitsWith n l f
-  unfolding limitsWith
+  pub with-refused : {why : Refusal} → heapLimits n l ≡ Refused why → Refused why ≡ heapLimitsWith n l f
+  unfolding heapLimitsWith
   with-refused e = sym (rw e)
 
-  pub with-large : limitsOf n l ≡ Done → 8 < f → Refused FactorTooLarge ≡ limitsWith n l f
-  unfolding limitsWith
-  with-large e b = sym (rw (e, lt-ltb 8 f b))
-
-  pub with-small : limitsOf n l ≡ Done → f ≤ 8 → Done ≡ limitsWith n l f
-  unfolding limitsWith
+  pub with-small : heapLimits n l ≡ Done → f ≤ 8 → Done ≡ heapLimitsWith n l f
+  unfolding heapLimitsWith
   with-small e b = sym (rw (e, le-ltb 8 f b))
 
 -- no cause, nor one in the factor
-pub with-room : (n l f : ℕ) → limitsWith n l f ≡ Done → Room l n × (f ≤ 8)
-unfolding limitsWith
-with-room n l f e = go (limitsOf n l) refl e
+pub with-room : (n l f : ℕ) → heapLimitsWith n l f ≡ Done → Room l n × (f ≤ 8)
+unfolding heapLimitsWith
+with-room n l f e = go (heapLimits n l) refl e
   where
-    go : (o : Outcome) → limitsOf n l ≡ o → limitsWith n l f ≡ Done → Room l n × (f ≤ 8)
+    go : (o : Outcome) → heapLimits n l ≡ o → heapLimitsWith n l f ≡ Done → Room l n × (f ≤ 8)
     go (Refused why) q w = absurd (refused-done why (sym (rw q) ∙ w))
     go Done q w = (limits-room n l q, by-lt 8 f (λ b. absurd (refused-done FactorTooLarge (sym (rw (q, lt-ltb 8 f b)) ∙ w))) (λ b. b))
 
@@ -160,11 +156,11 @@ unfolding peeked
 fair-peeked {m} f = record { valid = valid-peeked m (f .valid); few = omega (arith, from-length (m .held) (m .entries), f .few); factor = f .factor }
 
 -- ---- all entries at once
-module _ {ws ws′ : List ℕ} {h r : LazyMinHeap} (t : limitsOf (h .scores .capacity) (length ws) ≡ Done) where
-  pub rebuild-call : {d : ℕ} → Rebuilding ws h ws′ r → d ≡ h .entries - h .scores .len → Call ws h (limitsOf (h .scores .capacity) (length ws)) Done rebuilt surplus ws′ r d
+module _ {ws ws′ : List ℕ} {h r : LazyMinHeap} (t : heapLimits (h .scores .capacity) (length ws) ≡ Done) where
+  pub rebuild-call : {d : ℕ} → Rebuilding ws h ws′ r → d ≡ h .entries - h .scores .len → Call ws h (heapLimits (h .scores .capacity) (length ws)) Done rebuilt surplus ws′ r d
   rebuild-call k d = call-done refl t (λ is. heap-again (k .parts (is .parts)) (rebuilt-model k (is .parts)) (fair-rebuilt (fair-heap is))) (λ is. rebuilt-model k (is .parts)) (λ is. d ∙ sym (surplus-is ws h)) (same-capacity (k .entered .scores)) (k .entered .kept)
 
-  pub renumber-call : {d : ℕ} → Renumbering ws h ws′ r → d ≡ h .entries - h .scores .len → Call ws h (limitsOf (h .scores .capacity) (length ws)) Done renumbered surplus ws′ r d
+  pub renumber-call : {d : ℕ} → Renumbering ws h ws′ r → d ≡ h .entries - h .scores .len → Call ws h (heapLimits (h .scores .capacity) (length ws)) Done renumbered surplus ws′ r d
   renumber-call k d = call-done refl t (λ is. heap-again (k .parts (is .parts)) (k .model (is .parts)) (fair-renumbered (fair-heap is))) (λ is. k .model (is .parts)) (λ is. d ∙ sym (surplus-is ws h)) (same-capacity (k .scores)) (k .kept)
 
 -- ---- the factor
@@ -180,7 +176,7 @@ module _ (ws : List ℕ) (h : LazyMinHeap) where
     factor = (omega arith, omega arith);
   }
 
-  pub factor-call : (f : ℕ) {g : ℕ} → limitsWith (h .scores .capacity) (length ws) f ≡ Done → g ≡ atLeastOne f → Call ws h (limitsWith (h .scores .capacity) (length ws) f) Done (withFactor f) nothing ws (reset g) 0
+  pub factor-call : (f : ℕ) {g : ℕ} → heapLimitsWith (h .scores .capacity) (length ws) f ≡ Done → g ≡ atLeastOne f → Call ws h (heapLimitsWith (h .scores .capacity) (length ws) f) Done (withFactor f) nothing ws (reset g) 0
   unfolding withFactor
   factor-call f {g} t e = call-done refl t (λ is. heap-again (same-parts is) model (fair-factor f (fair-heap is) (with-room (h .scores .capacity) (length ws) f t .1))) (λ is. model) (λ is. refl) refl (kept-same (h .scores .capacity) ws)
     where
@@ -191,21 +187,21 @@ module _ (ws : List ℕ) (h : LazyMinHeap) where
       model = same-heap refl e refl refl refl
 
 -- ---- rebuilding where there are too many
-pub maybe-call : {ws ws′ : List ℕ} {h : LazyMinHeap} (f : ℕ) {r : Step} → limitsWith (h .scores .capacity) (length ws) f ≡ Done → Trimming ws h f ws′ r → Call ws h (limitsWith (h .scores .capacity) (length ws) f) Done (maybeRebuilt f) (maybeDiscards f) ws′ (r .heap) (r .discarded)
+pub maybe-call : {ws ws′ : List ℕ} {h : LazyMinHeap} (f : ℕ) {r : Step} → heapLimitsWith (h .scores .capacity) (length ws) f ≡ Done → Trimming ws h f ws′ r → Call ws h (heapLimitsWith (h .scores .capacity) (length ws) f) Done (maybeRebuilt f) (maybeDiscards f) ws′ (r .heap) (r .discarded)
 maybe-call {ws} {ws′} {h} f {r} t k =
     let b = with-room (h .scores .capacity) (length ws) f t .1 in
     call-done refl t (λ is. heap-again (k .parts (is .parts)) (k .model (is .parts) b) (fair-maybe-rebuilt f (fair-heap is))) (λ is. k .model (is .parts) b) (λ is. k .discarded (is .parts) b) (same-capacity (k .scores)) (k .kept)
 
 -- ---- opening and clearing
-fits : {n l : ℕ} → Room l n → fit n l ≡ true
-unfolding fit
+fits : {n l : ℕ} → Room l n → mapFits n l ≡ true
+unfolding mapFits
 fits {n} {l} g = rw (le-leb n 4096 (g .limit), le-leb (8 * n + 58) l (omega (arith, g .words)))
 
 fair-opened : (n f s : ℕ) → f ≤ 8 → Fair (opened n f s)
 unfolding opened
 fair-opened n f s b = record { valid = valid-opened n f s; few = omega arith; factor = (omega arith, omega arith) }
 
-module _ {ws ws′ : List ℕ} (n f s : ℕ) {r : mapOpened.Opened} (t : limitsWith n (length ws) f ≡ Done) (o : scores.Opening ws n ws′ r) where
+module _ {ws ws′ : List ℕ} (n f s : ℕ) {r : mapOpened.Opened} (t : heapLimitsWith n (length ws) f ≡ Done) (o : scores.Opening ws n ws′ r) where
   abbrev fresh : ℕ → LazyMinHeap
   fresh g = record { scores = r .map; entries = 0; seq = s; factor = g }
 
@@ -222,7 +218,7 @@ module _ {ws ws′ : List ℕ} (n f s : ℕ) {r : mapOpened.Opened} (t : limitsW
       room : Room (length ws) n × (f ≤ 8)
       room = with-room n (length ws) f t
 
-      fit-true : fit n (length ws) ≡ true
+      fit-true : mapFits n (length ws) ≡ true
       fit-true = fits (room .0)
 
       parts : Parts ws′ (fresh g)
@@ -231,7 +227,7 @@ module _ {ws ws′ : List ℕ} (n f s : ℕ) {r : mapOpened.Opened} (t : limitsW
       model : modelOf ws′ (fresh g) ≡ opened n f s
       model = same-heap (o .capacity fit-true) e refl (o .model fit-true) (model-none (part (r .map .capacity) ws′))
 
-pub open-refused : (ws : List ℕ) (n f s : ℕ) (why : Refusal) → limitsWith n (length ws) f ≡ Refused why → Opening ws n f s ws (record { heap = noHeap; outcome = Refused why })
+pub open-refused : (ws : List ℕ) (n f s : ℕ) (why : Refusal) → heapLimitsWith n (length ws) f ≡ Refused why → Opening ws n f s ws (record { heap = noHeap; outcome = Refused why })
 open-refused ws n f s why e = record {
   outcome = sym e;
   refused = λ w q. (refl, refl);
@@ -240,11 +236,11 @@ open-refused ws n f s why e = record {
   kept = kept-same n ws;
 }
 
-module _ {ws ws′ : List ℕ} (h : LazyMinHeap) {r : mapOpened.Opened} (t : limitsOf (h .scores .capacity) (length ws) ≡ Done) (o : scores.Clearing ws (h .scores) ws′ r) where
+module _ {ws ws′ : List ℕ} (h : LazyMinHeap) {r : mapOpened.Opened} (t : heapLimits (h .scores .capacity) (length ws) ≡ Done) (o : scores.Clearing ws (h .scores) ws′ r) where
   abbrev emptied : LazyMinHeap
   emptied = record { scores = r .map; entries = 0; seq = h .seq; factor = h .factor }
 
-  pub clear-call : {d : ℕ} → d ≡ h .entries - h .scores .len → Call ws h (limitsOf (h .scores .capacity) (length ws)) Done cleared surplus ws′ emptied d
+  pub clear-call : {d : ℕ} → d ≡ h .entries - h .scores .len → Call ws h (heapLimits (h .scores .capacity) (length ws)) Done cleared surplus ws′ emptied d
   unfolding cleared
   clear-call d =
       call-done refl t (λ is. heap-again (parts (is .parts)) (model (is .parts)) (fair-cleared (fair-heap is))) (λ is. model (is .parts)) (λ is. d ∙ sym (surplus-is ws h)) (o .capacity)
@@ -285,7 +281,7 @@ module _ {ws ws′ : List ℕ} (h : LazyMinHeap) (k : ℕ) {r : Removed} (o : sc
   pub remove-kept : Kept (h .scores .capacity) ws ws′
   remove-kept = record { size = o .kept .size; past = λ j b. o .kept .past j (omega arith) }
 
-  pub remove-call : {told : Outcome} → told ≡ Done → limitsOf (h .scores .capacity) (length ws) ≡ Done → Call ws h (limitsOf (h .scores .capacity) (length ws)) told (removed k) nothing ws′ without-key 0
+  pub remove-call : {told : Outcome} → told ≡ Done → heapLimits (h .scores .capacity) (length ws) ≡ Done → Call ws h (heapLimits (h .scores .capacity) (length ws)) told (removed k) nothing ws′ without-key 0
   remove-call u t = call-done u t (λ is. heap-again (remove-parts (is .parts)) (remove-model (is .parts)) (fair-removed k (fair-heap is))) (λ is. remove-model (is .parts)) (λ is. refl) (o .capacity) remove-kept
 
   pub removing : {a : Score} → a ≡ heldScore (r .answer) → without-key ≡ withHeld h (r .map .len) → Room (length ws) (h .scores .capacity) → Removing ws h k ws′ (record { heap = without-key; answer = a; discarded = 0 })

@@ -9,6 +9,7 @@ use native.Mathlib.Nat.{mul-le-mul}
 use lib.Dec.{eqb, leb}
 use lib.ListN.{length}
 use borrow.Author.Tests.{lt-ltb, le-leb, eqb-false}
+use Rattle.limits.specs.Limits.{heapLimits}
 use Rattle.rings.proofs.Counts.{by-lt}
 use Rattle.binary_heap.proofs.Laws.{insert-length}
 use Rattle.binary_heap.proofs.Laws.{model-length as array-length}
@@ -28,7 +29,7 @@ use Rattle.lazy_heap.specs.declared.heap.LazyMinHeap.{LazyMinHeap}
 use Rattle.lazy_heap.specs.declared.heap.Step.{Step}
 use Rattle.lazy_heap.specs.declared.heap.Held.{Held}
 use Rattle.lazy_heap_model.specs.declared.scores.Score.the-variants as score
-use Rattle.lazy_heap.specs.Words.{part, limitsOf, Room}
+use Rattle.lazy_heap.specs.Words.{part, Room}
 use Rattle.lazy_heap_model.specs.Model.{Heap, entryOf, atLeastOne, surplus, tooMany, numbered, heldScore, isFull, beforePush, renumbered, pushed, rebuilt, maybeRebuilt, updated, updateDiscards}
 use Rattle.lazy_heap.specs.Valid.{Valid}
 use Rattle.lazy_heap.specs.Heap.{heldOf, entriesOf, modelOf, Parts, IsHeap}
@@ -207,7 +208,7 @@ module _ {ws ws₁ ws₂ ws′ : List ℕ} {h : LazyMinHeap} {k s : ℕ} {a : St
         ∙ ap (λ (x : ℕ). x + c .discarded) (fit .discarded (is .parts))
         ∙ ap (λ (x : ℕ). cond (eqb (h .seq) (2 ^ 64 - 1)) (surplus m) 0 + x) (trim .discarded parts₂ (is .factor .1) ∙ ap (λ (n : Heap). cond (tooMany (h .factor) n) (surplus n) 0) second-is)
 
-  pub updating : {d : ℕ} → (Parts ws h → isFull k (modelOf ws h) ≡ false) → Adding (a .discarded) (c .discarded) d → limitsOf (h .scores .capacity) (length ws) ≡ Done → Updating ws h k s ws′ (record { heap = c .heap; answer = b .answer; discarded = d })
+  pub updating : {d : ℕ} → (Parts ws h → isFull k (modelOf ws h) ≡ false) → Adding (a .discarded) (c .discarded) d → heapLimits (h .scores .capacity) (length ws) ≡ Done → Updating ws h k s ws′ (record { heap = c .heap; answer = b .answer; discarded = d })
   updating {d} room add t = record {
     outcome = inl (hold .accepted ∙ sym t);
     refused = λ why q. absurd (refused-done why (sym q ∙ hold .accepted));
@@ -223,7 +224,7 @@ module _ {ws ws₁ ws₂ ws′ : List ℕ} {h : LazyMinHeap} {k s : ℕ} {a : St
   }
 
 -- refused: nothing changes
-pub updating-refused : {ws : List ℕ} {h : LazyMinHeap} {k s : ℕ} {why : Refusal} → limitsOf (h .scores .capacity) (length ws) ≡ Refused why → Updating ws h k s ws (record { heap = h; answer = score.Refused why; discarded = 0 })
+pub updating-refused : {ws : List ℕ} {h : LazyMinHeap} {k s : ℕ} {why : Refusal} → heapLimits (h .scores .capacity) (length ws) ≡ Refused why → Updating ws h k s ws (record { heap = h; answer = score.Refused why; discarded = 0 })
 updating-refused {ws} {h} e = record {
   outcome = inl (sym e);
   refused = λ w q. (refl, refl, refl);
@@ -235,7 +236,7 @@ updating-refused {ws} {h} e = record {
   kept = kept-same (h .scores .capacity) ws;
 }
 
-pub updating-full : {ws : List ℕ} {h : LazyMinHeap} {k s : ℕ} → (Parts ws h → isFull k (modelOf ws h) ≡ true) → limitsOf (h .scores .capacity) (length ws) ≡ Done → Updating ws h k s ws (record { heap = h; answer = score.Refused KeyLimitReached; discarded = 0 })
+pub updating-full : {ws : List ℕ} {h : LazyMinHeap} {k s : ℕ} → (Parts ws h → isFull k (modelOf ws h) ≡ true) → heapLimits (h .scores .capacity) (length ws) ≡ Done → Updating ws h k s ws (record { heap = h; answer = score.Refused KeyLimitReached; discarded = 0 })
 updating-full {ws} {h} {k} {s} full t = record {
   outcome = inr (t, refl);
   refused = λ why q. (refl, refl, refl);

@@ -6,6 +6,7 @@ use mathlib.Core.List.{List}
 use Prim.Native.Nat.{ℕ}
 use lib.Dec.{eqb, leb}
 use lib.ListN.{length}
+use Rattle.limits.specs.Limits.{heapLimits, heapLimitsWith}
 use Rattle.time.specs.declared.refusal.Refusal.{Refusal}
 use Rattle.time.specs.declared.refusal.Refusal.the-variants.{KeyLimitReached}
 use Rattle.time.specs.declared.refusal.Outcome.{Outcome}
@@ -25,7 +26,7 @@ use Rattle.lazy_heap.specs.declared.heap.Updated.{Updated}
 use Rattle.lazy_heap.specs.declared.heap.Bested.{Bested}
 use Rattle.lazy_heap.specs.declared.heap.Stepped.{Stepped}
 use Rattle.lazy_heap.specs.Answers.{ofScore, ofBest, ofNumber, ofFlag}
-use Rattle.lazy_heap.specs.Words.{limitsOf, limitsWith, Kept}
+use Rattle.lazy_heap.specs.Words.{Kept}
 use Rattle.lazy_heap_model.specs.Model.{Heap, surplus, tooMany, len, heldScore, stale, bestOfHeap, opened, withFactor, isFull, updated, updateDiscards, removed, peeked, popped, rebuilt, maybeRebuilt, renumbered, cleared}
 use Rattle.lazy_heap.specs.Heap.{modelOf, IsHeap}
 
@@ -35,11 +36,11 @@ noHeap = record { scores = record { capacity = 0; len = 0; refill_in = 0 }; entr
 
 -- refusals 1 and 2 of a heap's numbers
 abbrev pub limitsIn : List ℕ → LazyMinHeap → Outcome
-limitsIn ws h = limitsOf (h .scores .capacity) (length ws)
+limitsIn ws h = heapLimits (h .scores .capacity) (length ws)
 
 -- `open`
 pub record Opening (ws : List ℕ) (n f s : ℕ) (ws′ : List ℕ) (r : Opened) : Type 0 where
-  pub outcome : r .outcome ≡ limitsWith n (length ws) f
+  pub outcome : r .outcome ≡ heapLimitsWith n (length ws) f
   pub refused : (why : Refusal) → r .outcome ≡ Refused why → (r .heap ≡ noHeap) × (ws′ ≡ ws)
   pub heap : r .outcome ≡ Done → IsHeap ws′ (r .heap)
   pub model : r .outcome ≡ Done → modelOf ws′ (r .heap) ≡ opened n f s
@@ -65,7 +66,7 @@ Stepping ws h cause next count ws′ r = Call ws h cause (r .outcome) next count
 
 -- `set_auto_rebuild`
 abbrev pub Resetting : List ℕ → LazyMinHeap → ℕ → Stepped → Type 0
-Resetting ws h f r = Stepping ws h (limitsWith (h .scores .capacity) (length ws) f) (withFactor f) nothing ws r
+Resetting ws h f r = Stepping ws h (heapLimitsWith (h .scores .capacity) (length ws) f) (withFactor f) nothing ws r
 
 -- `rebuild`
 abbrev pub RebuildingNow : List ℕ → LazyMinHeap → List ℕ → Stepped → Type 0
@@ -76,7 +77,7 @@ abbrev pub maybeDiscards : ℕ → Heap → ℕ
 maybeDiscards f h = cond (tooMany f h) (surplus h) 0
 
 abbrev pub RebuildingMaybe : List ℕ → LazyMinHeap → ℕ → List ℕ → Stepped → Type 0
-RebuildingMaybe ws h f ws′ r = Stepping ws h (limitsWith (h .scores .capacity) (length ws) f) (maybeRebuilt f) (maybeDiscards f) ws′ r
+RebuildingMaybe ws h f ws′ r = Stepping ws h (heapLimitsWith (h .scores .capacity) (length ws) f) (maybeRebuilt f) (maybeDiscards f) ws′ r
 
 -- `renumber_seqs`
 abbrev pub RenumberingNow : List ℕ → LazyMinHeap → List ℕ → Stepped → Type 0

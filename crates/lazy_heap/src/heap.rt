@@ -3,7 +3,7 @@ ghost use mathlib.Core.Path.{_≡_};
 ghost use Prim.Native.Nat.{_-_, _^_};
 ghost use lib.ListN.{length};
 ghost use Rattle.linked_hash_map.specs.Calls.{placeOf};
-ghost use Rattle.lazy_heap.specs.Words.{limitsOf, limitsWith, Room};
+ghost use Rattle.lazy_heap.specs.Words.{Room};
 ghost use Rattle.lazy_heap_model.specs.Model.{atLeastOne, factorOf, len, heapLen, atMost};
 ghost use Rattle.lazy_heap.specs.Calls.{Opening, Resetting, Asking, AskingEmpty, Scoring, Removing, PeekingBest, PoppingBest, PoppingAtMost, RebuildingNow, RebuildingMaybe, RenumberingNow, Clearing, Updating, Checking};
 ghost use Rattle.lazy_heap.specs.Steps.{bestOf, Adding, isOver, after, Storing, Crowding, Living, Pushing, Popping, Peeking, CountingEntries, Taking, Settled, withEntries, Discarding, Rebuilding, Numbered, Renumbering, Fitting, Trimming, Holding};
@@ -81,37 +81,6 @@ struct Stored {
 struct Held {
     heap: LazyMinHeap,
     answer: Score,
-}
-
-// Refusals 1 and 2, of a key limit and a number of words.
-fn limits(limit: usize, size: usize) -> Outcome
-    ensures { λ r. ⌜ r ≡ limitsOf limit size ⌝ }
-{
-    if limit == 0 {
-        return Outcome::Refused(Refusal::LimitOutOfRange);
-    }
-    if 4096 < limit {
-        return Outcome::Refused(Refusal::LimitOutOfRange);
-    }
-    if size < 64 + 32 * limit {
-        return Outcome::Refused(Refusal::TooFewWords);
-    }
-    Outcome::Done
-}
-
-// And refusal 5, of a factor.
-fn limits_with(limit: usize, size: usize, factor: usize) -> Outcome
-    ensures { λ r. ⌜ r ≡ limitsWith limit size factor ⌝ }
-{
-    match limits(limit, size) {
-        Outcome::Refused(why) => Outcome::Refused(why),
-        Outcome::Done => {
-            if 8 < factor {
-                return Outcome::Refused(Refusal::FactorTooLarge);
-            }
-            Outcome::Done
-        }
-    }
 }
 
 fn at_least_one(factor: usize) -> usize
@@ -222,7 +191,7 @@ impl LazyMinHeap {
     pub fn open(words: &mut [u64], limit: usize, factor: usize, seq: u64) -> Opened
         ensures { λ r. ⌜ Opening (now (words .entry)) limit factor seq (now (words .exit)) r ⌝ }
     {
-        match limits_with(limit, words.len(), factor) {
+        match limits::heap_with_factor(limit, words.len(), factor) {
             Outcome::Refused(why) => Opened {
                 heap: LazyMinHeap {
                     scores: LinkedHashMap {
@@ -255,7 +224,7 @@ impl LazyMinHeap {
     pub fn set_auto_rebuild(self, words: &[u64], factor: usize) -> Stepped
         ensures { λ r. ⌜ Resetting (now (words .entry)) self factor r ⌝ }
     {
-        match limits_with(self.scores.capacity, words.len(), factor) {
+        match limits::heap_with_factor(self.scores.capacity, words.len(), factor) {
             Outcome::Refused(why) => Stepped {
                 heap: self,
                 outcome: Outcome::Refused(why),
@@ -280,7 +249,7 @@ impl LazyMinHeap {
     pub fn auto_rebuild_factor(self, words: &[u64]) -> Number
         ensures { λ r. ⌜ Asking (now (words .entry)) self factorOf r ⌝ }
     {
-        match limits(self.scores.capacity, words.len()) {
+        match limits::heap(self.scores.capacity, words.len()) {
             Outcome::Refused(why) => Number::Refused(why),
             Outcome::Done => Number::Value(self.factor),
         }
@@ -291,7 +260,7 @@ impl LazyMinHeap {
     pub fn len(self, words: &[u64]) -> Number
         ensures { λ r. ⌜ Asking (now (words .entry)) self len r ⌝ }
     {
-        match limits(self.scores.capacity, words.len()) {
+        match limits::heap(self.scores.capacity, words.len()) {
             Outcome::Refused(why) => Number::Refused(why),
             Outcome::Done => Number::Value(self.scores.len),
         }
@@ -300,7 +269,7 @@ impl LazyMinHeap {
     pub fn is_empty(self, words: &[u64]) -> Flag
         ensures { λ r. ⌜ AskingEmpty (now (words .entry)) self r ⌝ }
     {
-        match limits(self.scores.capacity, words.len()) {
+        match limits::heap(self.scores.capacity, words.len()) {
             Outcome::Refused(why) => Flag::Refused(why),
             Outcome::Done => {
                 if self.scores.len == 0 {
@@ -315,7 +284,7 @@ impl LazyMinHeap {
     pub fn heap_len(self, words: &[u64]) -> Number
         ensures { λ r. ⌜ Asking (now (words .entry)) self heapLen r ⌝ }
     {
-        match limits(self.scores.capacity, words.len()) {
+        match limits::heap(self.scores.capacity, words.len()) {
             Outcome::Refused(why) => Number::Refused(why),
             Outcome::Done => Number::Value(self.entries),
         }
@@ -325,7 +294,7 @@ impl LazyMinHeap {
     pub fn count_at_most(self, words: &[u64], score: u64) -> Number
         ensures { λ r. ⌜ Asking (now (words .entry)) self (atMost score) r ⌝ }
     {
-        match limits(self.scores.capacity, words.len()) {
+        match limits::heap(self.scores.capacity, words.len()) {
             Outcome::Refused(why) => Number::Refused(why),
             Outcome::Done => Number::Value(self.count_within(words, score)),
         }
@@ -336,7 +305,7 @@ impl LazyMinHeap {
     pub fn score_of(self, words: &[u64], key: u64) -> Score
         ensures { λ r. ⌜ Scoring (now (words .entry)) self key r ⌝ }
     {
-        match limits(self.scores.capacity, words.len()) {
+        match limits::heap(self.scores.capacity, words.len()) {
             Outcome::Refused(why) => Score::Refused(why),
             Outcome::Done => self.held_score(words, key),
         }
@@ -346,7 +315,7 @@ impl LazyMinHeap {
     pub fn update(self, words: &mut [u64], key: u64, score: u64) -> Updated
         ensures { λ r. ⌜ Updating (now (words .entry)) self key score (now (words .exit)) r ⌝ }
     {
-        match limits(self.scores.capacity, words.len()) {
+        match limits::heap(self.scores.capacity, words.len()) {
             Outcome::Refused(why) => Updated {
                 heap: self,
                 answer: Score::Refused(why),
@@ -360,7 +329,7 @@ impl LazyMinHeap {
     pub fn remove(self, words: &mut [u64], key: u64) -> Updated
         ensures { λ r. ⌜ Removing (now (words .entry)) self key (now (words .exit)) r ⌝ }
     {
-        match limits(self.scores.capacity, words.len()) {
+        match limits::heap(self.scores.capacity, words.len()) {
             Outcome::Refused(why) => Updated {
                 heap: self,
                 answer: Score::Refused(why),
@@ -374,7 +343,7 @@ impl LazyMinHeap {
     pub fn peek_best(self, words: &mut [u64]) -> Bested
         ensures { λ r. ⌜ PeekingBest (now (words .entry)) self (now (words .exit)) r ⌝ }
     {
-        match limits(self.scores.capacity, words.len()) {
+        match limits::heap(self.scores.capacity, words.len()) {
             Outcome::Refused(why) => Bested {
                 heap: self,
                 answer: Best::Refused(why),
@@ -387,7 +356,7 @@ impl LazyMinHeap {
     pub fn pop_best(self, words: &mut [u64]) -> Bested
         ensures { λ r. ⌜ PoppingBest (now (words .entry)) self (now (words .exit)) r ⌝ }
     {
-        match limits(self.scores.capacity, words.len()) {
+        match limits::heap(self.scores.capacity, words.len()) {
             Outcome::Refused(why) => Bested {
                 heap: self,
                 answer: Best::Refused(why),
@@ -401,7 +370,7 @@ impl LazyMinHeap {
     pub fn pop_at_most(self, words: &mut [u64], score: u64) -> Bested
         ensures { λ r. ⌜ PoppingAtMost (now (words .entry)) self score (now (words .exit)) r ⌝ }
     {
-        match limits(self.scores.capacity, words.len()) {
+        match limits::heap(self.scores.capacity, words.len()) {
             Outcome::Refused(why) => Bested {
                 heap: self,
                 answer: Best::Refused(why),
@@ -416,7 +385,7 @@ impl LazyMinHeap {
     pub fn rebuild(self, words: &mut [u64]) -> Stepped
         ensures { λ r. ⌜ RebuildingNow (now (words .entry)) self (now (words .exit)) r ⌝ }
     {
-        match limits(self.scores.capacity, words.len()) {
+        match limits::heap(self.scores.capacity, words.len()) {
             Outcome::Refused(why) => Stepped {
                 heap: self,
                 outcome: Outcome::Refused(why),
@@ -437,7 +406,7 @@ impl LazyMinHeap {
     pub fn maybe_rebuild(self, words: &mut [u64], factor: usize) -> Stepped
         ensures { λ r. ⌜ RebuildingMaybe (now (words .entry)) self factor (now (words .exit)) r ⌝ }
     {
-        match limits_with(self.scores.capacity, words.len(), factor) {
+        match limits::heap_with_factor(self.scores.capacity, words.len(), factor) {
             Outcome::Refused(why) => Stepped {
                 heap: self,
                 outcome: Outcome::Refused(why),
@@ -458,7 +427,7 @@ impl LazyMinHeap {
     pub fn renumber_seqs(self, words: &mut [u64]) -> Stepped
         ensures { λ r. ⌜ RenumberingNow (now (words .entry)) self (now (words .exit)) r ⌝ }
     {
-        match limits(self.scores.capacity, words.len()) {
+        match limits::heap(self.scores.capacity, words.len()) {
             Outcome::Refused(why) => Stepped {
                 heap: self,
                 outcome: Outcome::Refused(why),
@@ -479,7 +448,7 @@ impl LazyMinHeap {
     pub fn clear(self, words: &mut [u64]) -> Stepped
         ensures { λ r. ⌜ Clearing (now (words .entry)) self (now (words .exit)) r ⌝ }
     {
-        match limits(self.scores.capacity, words.len()) {
+        match limits::heap(self.scores.capacity, words.len()) {
             Outcome::Refused(why) => Stepped {
                 heap: self,
                 outcome: Outcome::Refused(why),
@@ -509,7 +478,7 @@ impl LazyMinHeap {
     pub fn check(self, words: &[u64]) -> bool
         ensures { λ r. ⌜ Checking (now (words .entry)) self r ⌝ }
     {
-        match limits(self.scores.capacity, words.len()) {
+        match limits::heap(self.scores.capacity, words.len()) {
             Outcome::Refused(_) => false,
             Outcome::Done => {
                 if self.is_sound(words) {

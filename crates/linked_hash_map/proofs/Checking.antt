@@ -9,6 +9,7 @@ use native.Mathlib.Omega.{arith}
 use lib.Dec.{ltb, eqb}
 use lib.ListN.{length}
 use borrow.Author.Tests.{lt-ltb, eq-eqb, eqb-true}
+use Rattle.limits.specs.Limits.{mapFits}
 use Rattle.rings.specs.Ring.{next, along, walks, Two}
 use Rattle.rings.proofs.Two.{count-le-one, one-is-below}
 use Rattle.rings.proofs.Walks.{one-walks, other-walks, two-of-walks}
@@ -20,7 +21,7 @@ use Rattle.cells.specs.Index.{heldIn}
 use Rattle.cells.proofs.Indexing.{live-found}
 use Rattle.cells.proofs.Exact.{index-counts, count-indexes}
 use Rattle.linked_hash_map.specs.declared.map.LinkedHashMap.{LinkedHashMap}
-use Rattle.linked_hash_map.specs.Words.{fit, Room}
+use Rattle.linked_hash_map.specs.Words.{Room}
 use Rattle.linked_hash_map.specs.Checks.{endsAt, findsOf, findsAll}
 use Rattle.linked_hash_map.specs.Map.{IsMap, liveOf, freeOf}
 use Rattle.linked_hash_map.specs.Calls.{Checking}
@@ -63,7 +64,7 @@ found-all ws n (suc k) x h =
 
 module _ (ws : List ℕ) (m : LinkedHashMap) where
   -- what the tests have shown
-  pub tests-map : fit (m .capacity) (length ws) ≡ true → m .len ≤ m .capacity → (m .refill_in ≡ 0 → ⊥) → walks ws (m .capacity) (m .capacity) (m .capacity) (m .len) ≡ true → walks ws (m .capacity) (m .capacity + 1) (m .capacity + 1) (m .capacity - m .len) ≡ true → findsAll ws (m .capacity) (m .len) (next ws (m .capacity)) ≡ true → length (heldIn ws (m .capacity) (cellCount (m .capacity))) ≡ m .len → IsMap ws m
+  pub tests-map : mapFits (m .capacity) (length ws) ≡ true → m .len ≤ m .capacity → (m .refill_in ≡ 0 → ⊥) → walks ws (m .capacity) (m .capacity) (m .capacity) (m .len) ≡ true → walks ws (m .capacity) (m .capacity + 1) (m .capacity + 1) (m .capacity - m .len) ≡ true → findsAll ws (m .capacity) (m .len) (next ws (m .capacity)) ≡ true → length (heldIn ws (m .capacity) (cellCount (m .capacity))) ≡ m .len → IsMap ws m
   unfolding liveOf freeOf
   tests-map f h o a b c d = record {
     room = room;
@@ -103,7 +104,7 @@ pub checking-no : {ws : List ℕ} {m : LinkedHashMap} → (IsMap ws m → ⊥) �
 checking-no none = record { sound = λ e. absurd (true≢false (sym e)); complete = λ is. absurd (none is) }
 
 -- the last test decides
-pub checking : (ws : List ℕ) (m : LinkedHashMap) {h : ℕ} → fit (m .capacity) (length ws) ≡ true → m .len ≤ m .capacity → (m .refill_in ≡ 0 → ⊥) → walks ws (m .capacity) (m .capacity) (m .capacity) (m .len) ≡ true → walks ws (m .capacity) (m .capacity + 1) (m .capacity + 1) (m .capacity - m .len) ≡ true → findsAll ws (m .capacity) (m .len) (next ws (m .capacity)) ≡ true → h ≡ length (heldIn ws (m .capacity) (cellCount (m .capacity))) → Checking ws m (eqb h (m .len))
+pub checking : (ws : List ℕ) (m : LinkedHashMap) {h : ℕ} → mapFits (m .capacity) (length ws) ≡ true → m .len ≤ m .capacity → (m .refill_in ≡ 0 → ⊥) → walks ws (m .capacity) (m .capacity) (m .capacity) (m .len) ≡ true → walks ws (m .capacity) (m .capacity + 1) (m .capacity + 1) (m .capacity - m .len) ≡ true → findsAll ws (m .capacity) (m .len) (next ws (m .capacity)) ≡ true → h ≡ length (heldIn ws (m .capacity) (cellCount (m .capacity))) → Checking ws m (eqb h (m .len))
 checking ws m {h} f a o b c d e = record {
   sound = λ q. tests-map ws m f a o b c d (sym e ∙ eqb-true h (m .len) q);
   complete = λ is. eq-eqb h (m .len) (e ∙ map-held ws m is);

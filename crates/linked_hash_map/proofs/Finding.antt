@@ -7,6 +7,7 @@ use native.Mathlib.Omega.{arith}
 use lib.Dec.{ltb}
 use lib.ListN.{length, getD}
 use borrow.Author.Tests.{lt-ltb, ltb-true}
+use Rattle.limits.specs.Limits.{mapFits}
 use Rattle.rings.specs.Ring as ring
 use Rattle.rings.proofs.Two.{length-without-one}
 use Rattle.cells.specs.declared.Probe.the-variants as probed
@@ -16,7 +17,7 @@ use Rattle.linked_hash_map.specs.declared.map.LinkedHashMap.{LinkedHashM
 use Rattle.linked_hash_map.specs.declared.map.Record.{Record}
 use Rattle.linked_hash_map.specs.declared.map.Slot.the-variants as slot
 use Rattle.linked_hash_map.specs.declared.map.Taken.the-variants as taken
-use Rattle.linked_hash_map.specs.Words.{fit, recordAt, written}
+use Rattle.linked_hash_map.specs.Words.{recordAt, written}
 use Rattle.linked_hash_map.specs.Model.{Model, lookup, nth, without, toFront}
 use Rattle.linked_hash_map.specs.Map.{IsMap, liveOf, freeOf, modelOf, slotOf, slotAt}
 use Rattle.linked_hash_map.specs.Calls.{zeros, Finding, Touching, Reading, Writing}
@@ -27,7 +28,7 @@ use Rattle.linked_hash_map.proofs.Keeping.{kept-same, kept-moved, kept-
 use Rattle.linked_hash_map.proofs.Probed.{map-fits, hit, miss, live-length}
 
 -- words that do not fit are no map
-pub unfit : {ws : List ℕ} {m : LinkedHashMap} → fit (m .capacity) (length ws) ≡ false → IsMap ws m → ⊥
+pub unfit : {ws : List ℕ} {m : LinkedHashMap} → mapFits (m .capacity) (length ws) ≡ false → IsMap ws m → ⊥
 unfit e is = true≢false (sym (map-fits is) ∙ e)
 
 -- a slot that a place has is a live record
@@ -41,18 +42,18 @@ place-slot ws m i s e = go (ltb i (m .len)) refl e
 
 -- ---- find
 module _ {ws : List ℕ} {m : LinkedHashMap} (k : ℕ) where
-  pub finding-refused : fit (m .capacity) (length ws) ≡ false → Finding ws m k slot.Refused
+  pub finding-refused : mapFits (m .capacity) (length ws) ≡ false → Finding ws m k slot.Refused
   finding-refused e = record { refused = λ _. refl; answer = λ is. absurd (unfit e is) }
 
-  pub finding-at : {c s : ℕ} → fit (m .capacity) (length ws) ≡ true → probe ws (m .capacity) k ≡ probed.At c s → Finding ws m k (slot.At s)
+  pub finding-at : {c s : ℕ} → mapFits (m .capacity) (length ws) ≡ true → probe ws (m .capacity) k ≡ probed.At c s → Finding ws m k (slot.At s)
   finding-at f e = record { refused = λ q. absurd (true≢false (sym f ∙ q)); answer = λ is. sym (hit is k e .slot) }
 
-  pub finding-none : fit (m .capacity) (length ws) ≡ true → ((c s : ℕ) → probe ws (m .capacity) k ≡ probed.At c s → ⊥) → Finding ws m k slot.Nothing
+  pub finding-none : mapFits (m .capacity) (length ws) ≡ true → ((c s : ℕ) → probe ws (m .capacity) k ≡ probed.At c s → ⊥) → Finding ws m k slot.Nothing
   finding-none f none = record { refused = λ q. absurd (true≢false (sym f ∙ q)); answer = λ is. sym (miss is k none .slot) }
 
 -- ---- touch
 module _ {ws : List ℕ} {m : LinkedHashMap} (k : ℕ) where
-  pub touching-refused : fit (m .capacity) (length ws) ≡ false → Touching ws m k ws slot.Refused
+  pub touching-refused : mapFits (m .capacity) (length ws) ≡ false → Touching ws m k ws slot.Refused
   touching-refused e = record {
     refused = λ _. (refl, refl);
     answer = λ is. absurd (unfit e is);
@@ -62,7 +63,7 @@ module _ {ws : List ℕ} {m : LinkedHashMap} (k : ℕ) where
     kept = kept-same (m .capacity) ws;
   }
 
-  pub touching-none : fit (m .capacity) (length ws) ≡ true → ((c s : ℕ) → probe ws (m .capacity) k ≡ probed.At c s → ⊥) → Touching ws m k ws slot.Nothing
+  pub touching-none : mapFits (m .capacity) (length ws) ≡ true → ((c s : ℕ) → probe ws (m .capacity) k ≡ probed.At c s → ⊥) → Touching ws m k ws slot.Nothing
   unfolding toFront
   touching-none f none = record {
     refused = λ q. absurd (true≢false (sym f ∙ q));
@@ -73,7 +74,7 @@ module _ {ws : List ℕ} {m : LinkedHashMap} (k : ℕ) where
     kept = kept-same (m .capacity) ws;
   }
 
-  module _ (c s : ℕ) (f : fit (m .capacity) (length ws) ≡ true) (e : probe ws (m .capacity) k ≡ probed.At c s) where
+  module _ (c s : ℕ) (f : mapFits (m .capacity) (length ws) ≡ true) (e : probe ws (m .capacity) k ≡ probed.At c s) where
     front-laid : IsMap ws m → Laid (ring.moved (m .capacity + 2) ws (m .capacity) s) (m .capacity) (s ∷ ring.without s (liveOf ws m)) (freeOf ws m)
     front-laid is = laid-front (of-map is) (hit is k e .live)
 
@@ -98,7 +99,7 @@ module _ {ws : List ℕ} {m : LinkedHashMap} (k : ℕ) where
     }
 
 -- ---- record
-pub reading : (ws : List ℕ) (m : LinkedHashMap) (s : ℕ) → fit (m .capacity) (length ws) ≡ true → s < m .capacity → Reading ws m s (recordAt ws s)
+pub reading : (ws : List ℕ) (m : LinkedHashMap) (s : ℕ) → mapFits (m .capacity) (length ws) ≡ true → s < m .capacity → Reading ws m s (recordAt ws s)
 unfolding slotOf modelOf
 reading ws m s room h = record {
   refused = λ e. absurd (true≢false (sym room ∙ e));
@@ -133,7 +134,7 @@ reading-none ws m s out = record {
 
 -- ---- set_payload
 module _ {ws : List ℕ} {m : LinkedHashMap} (x : Record) where
-  pub writing-refused : fit (m .capacity) (length ws) ≡ false → Writing ws m x ws false
+  pub writing-refused : mapFits (m .capacity) (length ws) ≡ false → Writing ws m x ws false
   writing-refused e = record {
     refused = λ _. (refl, refl);
     answer = λ is. absurd (unfit e is);
@@ -143,7 +144,7 @@ module _ {ws : List ℕ} {m : LinkedHashMap} (x : Record) where
     kept = kept-same (m .capacity) ws;
   }
 
-  pub writing-none : fit (m .capacity) (length ws) ≡ true → ((c s : ℕ) → probe ws (m .capacity) (x .key) ≡ probed.At c s → ⊥) → Writing ws m x ws false
+  pub writing-none : mapFits (m .capacity) (length ws) ≡ true → ((c s : ℕ) → probe ws (m .capacity) (x .key) ≡ probed.At c s → ⊥) → Writing ws m x ws false
   unfolding modelOf
   writing-none f none = record {
     refused = λ q. absurd (true≢false (sym f ∙ q));
@@ -154,7 +155,7 @@ module _ {ws : List ℕ} {m : LinkedHashMap} (x : Record) where
     kept = kept-same (m .capacity) ws;
   }
 
-  module _ (c s : ℕ) (f : fit (m .capacity) (length ws) ≡ true) (e : probe ws (m .capacity) (x .key) ≡ probed.At c s) where
+  module _ (c s : ℕ) (f : mapFits (m .capacity) (length ws) ≡ true) (e : probe ws (m .capacity) (x .key) ≡ probed.At c s) where
     written-laid : IsMap ws m → Laid (written ws s x) (m .capacity) (liveOf ws m) (freeOf ws m)
     written-laid is = laid-written (of-map is) s x (live-below (of-map is) (hit is (x .key) e .live)) (λ q. hit is (x .key) e .key)
 

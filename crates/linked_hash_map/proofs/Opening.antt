@@ -5,8 +5,9 @@ use mathlib.Core.List.{List, [], _∷_, map}
 use Prim.Native.Nat.{ℕ}
 use native.Mathlib.Omega.{arith}
 use lib.ListN.{length}
+use Rattle.limits.specs.Limits.{mapFits}
 use Rattle.linked_hash_map.specs.declared.map.LinkedHashMap.{LinkedHashMap}
-use Rattle.linked_hash_map.specs.Words.{fit, recordAt, emptied, wiped}
+use Rattle.linked_hash_map.specs.Words.{recordAt, emptied, wiped}
 use Rattle.linked_hash_map.specs.Numbers.{emptyMap}
 use Rattle.linked_hash_map.specs.Model.{Model}
 use Rattle.linked_hash_map.specs.Map.{IsMap, modelOf}
@@ -17,7 +18,7 @@ use Rattle.linked_hash_map.proofs.Laid.{of-map, to-map, live-is}
 use Rattle.linked_hash_map.proofs.Refill.{laid-emptied, laid-wiped}
 use Rattle.linked_hash_map.proofs.Keeping.{kept-same, kept-emptied, kept-wiped}
 
-module _ (ws : List ℕ) (n : ℕ) (f : fit n (length ws) ≡ true) where
+module _ (ws : List ℕ) (n : ℕ) (f : mapFits n (length ws) ≡ true) where
   empty-is-map : IsMap (emptied ws n) (emptyMap n)
   empty-is-map = to-map (emptyMap n) (laid-emptied ws n (is-room n (length ws) f)) refl (omega arith)
 
@@ -35,7 +36,7 @@ module _ (ws : List ℕ) (n : ℕ) (f : fit n (length ws) ≡ true) where
     kept = kept-emptied n ws;
   }
 
-pub opening-refused : (ws : List ℕ) (n : ℕ) → fit n (length ws) ≡ false → Opening ws n ws (record { map = none; is_open = false })
+pub opening-refused : (ws : List ℕ) (n : ℕ) → mapFits n (length ws) ≡ false → Opening ws n ws (record { map = none; is_open = false })
 opening-refused ws n e = record {
   refused = λ _. (refl, refl);
   opened = λ q. absurd (true≢false (sym q ∙ e));
@@ -57,7 +58,7 @@ module _ (ws : List ℕ) (m : LinkedHashMap) where
   unfolding modelOf
   wiped-model is = ap (map (recordAt (wiped ws (m .capacity)))) (live-is (emptyMap (m .capacity)) (laid-wiped (of-map is)) refl)
 
-  pub clearing-wiped : fit (m .capacity) (length ws) ≡ true → Clearing ws m (wiped ws (m .capacity)) (record { map = emptyMap (m .capacity); is_open = true })
+  pub clearing-wiped : mapFits (m .capacity) (length ws) ≡ true → Clearing ws m (wiped ws (m .capacity)) (record { map = emptyMap (m .capacity); is_open = true })
   clearing-wiped f = record {
     refused = λ q. absurd (true≢false (sym f ∙ q));
     opened = λ _. refl;
@@ -67,7 +68,7 @@ module _ (ws : List ℕ) (m : LinkedHashMap) where
     kept = kept-wiped (m .capacity) ws;
   }
 
-  pub clearing-drained : fit (m .capacity) (length ws) ≡ true → {ws′ : List ℕ} {r : LinkedHashMap} → Draining ws m 0 ws′ r → Clearing ws m ws′ (record { map = r; is_open = true })
+  pub clearing-drained : mapFits (m .capacity) (length ws) ≡ true → {ws′ : List ℕ} {r : LinkedHashMap} → Draining ws m 0 ws′ r → Clearing ws m ws′ (record { map = r; is_open = true })
   clearing-drained f {ws′} {r} d = record {
     refused = λ q. absurd (true≢false (sym f ∙ q));
     opened = λ _. refl;
@@ -77,7 +78,7 @@ module _ (ws : List ℕ) (m : LinkedHashMap) where
     kept = d .kept;
   }
 
-  pub clearing-refused : fit (m .capacity) (length ws) ≡ false → Clearing ws m ws (record { map = m; is_open = false })
+  pub clearing-refused : mapFits (m .capacity) (length ws) ≡ false → Clearing ws m ws (record { map = m; is_open = false })
   clearing-refused e = record {
     refused = λ _. (refl, refl);
     opened = λ q. absurd (true≢false (sym q ∙ e));

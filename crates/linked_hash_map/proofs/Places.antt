@@ -5,6 +5,7 @@ use mathlib.Core.List.{List}
 use Prim.Native.Nat.{ℕ, _+_, _<_, _≤_}
 use native.Mathlib.Omega.{arith}
 use lib.ListN.{length}
+use Rattle.limits.specs.Limits.{mapFits}
 use Rattle.rings.specs.Ring as ring
 use Rattle.rings.proofs.Counts.{by-lt}
 use Rattle.cells.specs.declared.Probe.{Probe}
@@ -19,7 +20,7 @@ use Rattle.linked_hash_map.specs.declared.map.Place.{Place}
 use Rattle.linked_hash_map.specs.declared.map.Place.the-variants as place
 use Rattle.linked_hash_map.specs.declared.map.Placed.the-variants as placed
 use Rattle.linked_hash_map.specs.declared.map.Taken.the-variants as taken
-use Rattle.linked_hash_map.specs.Words.{fit, recordAt, replaced, takenOut, putIn}
+use Rattle.linked_hash_map.specs.Words.{recordAt, replaced, takenOut, putIn}
 use Rattle.linked_hash_map.specs.Numbers.{lenAfter, Inserting}
 use Rattle.linked_hash_map.specs.Map.{IsMap}
 use Rattle.linked_hash_map.specs.Calls.{zeros, placeFrom, placeOf, ReplacingAt, InsertingAt, TakingAt, Putting, Removing}
@@ -28,28 +29,28 @@ use Rattle.linked_hash_map.proofs.Probed.{map-fits, free-not-at, full-n
 use Rattle.linked_hash_map.proofs.Putting.{removing-refused, removing-none, removing-at, putting-refused, putting-crowded, putting-at, putting-full, putting-free, grown-kept}
 
 module _ (ws : List ℕ) (m : LinkedHashMap) (k : ℕ) where
-  pub place-refused : fit (m .capacity) (length ws) ≡ false → place.Refused ≡ placeOf ws m k
+  pub place-refused : mapFits (m .capacity) (length ws) ≡ false → place.Refused ≡ placeOf ws m k
   unfolding placeOf
   place-refused f = rw f
 
-  pub place-probed : {r : Probe} → fit (m .capacity) (length ws) ≡ true → probe ws (m .capacity) k ≡ r → placeFrom r ≡ placeOf ws m k
+  pub place-probed : {r : Probe} → mapFits (m .capacity) (length ws) ≡ true → probe ws (m .capacity) k ≡ r → placeFrom r ≡ placeOf ws m k
   unfolding placeOf
   place-probed f e = rw (f, e)
 
   -- where a probe ends
   pub record Ends (r : Probe) : Type 0 where
-    pub fits : fit (m .capacity) (length ws) ≡ true
+    pub fits : mapFits (m .capacity) (length ws) ≡ true
     pub at : probe ws (m .capacity) k ≡ r
 
   data Told (p : Place) : Type 0 where
     found : (r : Probe) → Ends r → p ≡ placeFrom r → Told p
-    nowhere : fit (m .capacity) (length ws) ≡ false → p ≡ place.Refused → Told p
+    nowhere : mapFits (m .capacity) (length ws) ≡ false → p ≡ place.Refused → Told p
 
   told : Told (placeOf ws m k)
   unfolding placeOf
-  told = go (fit (m .capacity) (length ws)) refl
+  told = go (mapFits (m .capacity) (length ws)) refl
     where
-      go : (b : Bool) → fit (m .capacity) (length ws) ≡ b → Told (placeOf ws m k)
+      go : (b : Bool) → mapFits (m .capacity) (length ws) ≡ b → Told (placeOf ws m k)
       go true f = found (probe ws (m .capacity) k) (record { fits = f; at = refl }) (rw f)
       go false f = nowhere f (rw f)
 
@@ -80,10 +81,10 @@ module _ (ws : List ℕ) (m : LinkedHashMap) (k : ℕ) where
       go (found probed.Full o p) = o
       go (nowhere f p) = absurd (let z : _≡_ {A = ℕ} 0 1 = cc in omega arith)
 
-  pub refused-place : placeOf ws m k ≡ place.Refused → fit (m .capacity) (length ws) ≡ false
+  pub refused-place : placeOf ws m k ≡ place.Refused → mapFits (m .capacity) (length ws) ≡ false
   refused-place e = go told
     where
-      go : Told (placeOf ws m k) → fit (m .capacity) (length ws) ≡ false
+      go : Told (placeOf ws m k) → mapFits (m .capacity) (length ws) ≡ false
       go (found (probed.At d t) o p) = absurd (let z : _≡_ {A = ℕ} 0 1 = cc in omega arith)
       go (found (probed.Free d) o p) = absurd (let z : _≡_ {A = ℕ} 0 1 = cc in omega arith)
       go (found probed.Full o p) = absurd (let z : _≡_ {A = ℕ} 0 1 = cc in omega arith)
@@ -118,8 +119,8 @@ module _ {ws : List ℕ} {m : LinkedHashMap} where
 
 -- ---- what goes on
 module _ (ws : List ℕ) (m : LinkedHashMap) where
-  module _ (f : fit (m .capacity) (length ws) ≡ true) where
-    fits : {A : Type 0} → fit (m .capacity) (length ws) ≡ false → A
+  module _ (f : mapFits (m .capacity) (length ws) ≡ true) where
+    fits : {A : Type 0} → mapFits (m .capacity) (length ws) ≡ false → A
     fits q = absurd (true≢false (sym f ∙ q))
 
     pub replacing-at : (s : ℕ) (x : Record) → s < m .capacity → ReplacingAt ws m s x (replaced ws (m .capacity) s x) (recordAt ws s)
@@ -147,7 +148,7 @@ module _ (ws : List ℕ) (m : LinkedHashMap) where
     inserting-beyond {c} {x} h = record { refused = fits; put = λ e g. absurd (omega (arith, free-vacant _ _ _ _ (free-place ws m (x .key) e .at) .cell)); kept = kept-same (m .capacity) ws }
 
   -- with no room there is none at all
-  module _ (f : fit (m .capacity) (length ws) ≡ false) where
+  module _ (f : mapFits (m .capacity) (length ws) ≡ false) where
     pub replacing-unfit : {s : ℕ} {x : Record} → ReplacingAt ws m s x ws x
     replacing-unfit {s} {x} = record { refused = λ _. (refl, refl); put = λ c e. absurd (true≢false (sym (at-place ws m (x .key) e .fits) ∙ f)); kept = kept-same (m .capacity) ws }
 
@@ -156,7 +157,7 @@ module _ (ws : List ℕ) (m : LinkedHashMap) where
 
 -- ---- the same of any map with a capacity
 module _ (ws : List ℕ) (n : ℕ) where
-  pub taking-at : (c s : ℕ) → fit n (length ws) ≡ true → c < cellCount n → TakingAt ws n c s (takenOut ws n c s) (recordAt ws s .first)
+  pub taking-at : (c s : ℕ) → mapFits n (length ws) ≡ true → c < cellCount n → TakingAt ws n c s (takenOut ws n c s) (recordAt ws s .first)
   taking-at c s f b = record {
     gone = recordAt ws s;
     first = refl;
@@ -169,7 +170,7 @@ module _ (ws : List ℕ) (n : ℕ) where
   taking-none : {c s : ℕ} → ((m : LinkedHashMap) (k : ℕ) → m .capacity ≡ n → placeOf ws m k ≡ place.At c s → ⊥) → TakingAt ws n c s ws 0
   taking-none h = record { gone = zeros; first = refl; refused = λ _. (refl, refl); remove = λ m k q e. absurd (h m k q e); kept = kept-same n ws }
 
-  pub taking-unfit : {c s : ℕ} → fit n (length ws) ≡ false → TakingAt ws n c s ws 0
+  pub taking-unfit : {c s : ℕ} → mapFits n (length ws) ≡ false → TakingAt ws n c s ws 0
   taking-unfit f = taking-none (λ m k q e. true≢false (sym (at-place ws m k e .fits) ∙ rw q f))
 
   pub taking-past : {c s : ℕ} → n ≤ s → TakingAt ws n c s ws 0

@@ -6,6 +6,7 @@ use Prim.Native.Nat.{ℕ, _+_, _-_, _*_}
 use native.Mathlib.Omega.{arith}
 use lib.ListN.{length}
 use borrow.Author.Tests.{le-leb}
+use Rattle.limits.specs.Limits.{mapFits}
 use Rattle.cells.specs.declared.Probe.{Probe}
 use Rattle.cells.specs.declared.Probe.the-variants as probed
 use Rattle.cells.specs.Cells.{keyAt}
@@ -15,13 +16,13 @@ use Rattle.rings.proofs.Walks.{length-along}
 use Rattle.linked_hash_map.specs.declared.map.LinkedHashMap.{LinkedHashMap}
 use Rattle.linked_hash_map.specs.declared.map.Slot.the-variants as slot
 use Rattle.linked_hash_map.specs.declared.map.Taken.the-variants as taken
-use Rattle.linked_hash_map.specs.Words.{fit, recordAt}
+use Rattle.linked_hash_map.specs.Words.{recordAt}
 use Rattle.linked_hash_map.specs.Model.{has, lookup}
 use Rattle.linked_hash_map.specs.Map.{IsMap, liveOf, freeOf, modelOf, slotOf}
 use Rattle.linked_hash_map.proofs.Records.{Search, found, missing, search-key}
 
-pub map-fits : {ws : List ℕ} {m : LinkedHashMap} → IsMap ws m → fit (m .capacity) (length ws) ≡ true
-unfolding fit
+pub map-fits : {ws : List ℕ} {m : LinkedHashMap} → IsMap ws m → mapFits (m .capacity) (length ws) ≡ true
+unfolding mapFits
 map-fits {ws} {m} is = simp (le-leb (m .capacity) 4096 (is .room .limit), le-leb (8 * m .capacity + 58) (length ws) (is .room .words))
 
 -- an end of a probe is no other

@@ -9,6 +9,7 @@ use native.Mathlib.Omega.{arith}
 use lib.Dec.{ltb}
 use lib.ListN.{length, getD, length-map}
 use borrow.Author.Tests.{lt-ltb, le-ltb}
+use Rattle.limits.specs.Limits.{mapFits}
 use Rattle.rings.specs.Ring as ring
 use Rattle.rings.proofs.Counts.{by-lt, mem-without}
 use Rattle.rings.proofs.Two.{two-swap, other-is-below, mem-not-both, next-sentinel, length-without-one}
@@ -22,7 +23,7 @@ use Rattle.linked_hash_map.specs.declared.map.LinkedHashMap.{LinkedHashM
 use Rattle.linked_hash_map.specs.declared.map.Record.{Record}
 use Rattle.linked_hash_map.specs.declared.map.Placed.the-variants as placed
 use Rattle.linked_hash_map.specs.declared.map.Taken.the-variants as taken
-use Rattle.linked_hash_map.specs.Words.{fit, Kept, recordAt, written, replaced, takenOut, putIn, refilled}
+use Rattle.linked_hash_map.specs.Words.{Kept, recordAt, written, replaced, takenOut, putIn, refilled}
 use Rattle.linked_hash_map.specs.Numbers.{longerMap, shrunkMap, lenAfter, Grown, Inserting}
 use Rattle.linked_hash_map.specs.Model.{Model, has, lookup, without, placing, put}
 use Rattle.linked_hash_map.specs.Map.{IsMap, liveOf, freeOf, modelOf}
@@ -48,7 +49,7 @@ taken-record ws n c s y b h =
     ∙ record-below n ws (erased ws n c) (λ j q. erased-outside ws n c b j (inl q)) y h
 
 module _ {ws : List ℕ} {m : LinkedHashMap} (k : ℕ) where
-  pub removing-refused : fit (m .capacity) (length ws) ≡ false → Removing ws m k ws (record { map = m; answer = taken.Refused })
+  pub removing-refused : mapFits (m .capacity) (length ws) ≡ false → Removing ws m k ws (record { map = m; answer = taken.Refused })
   removing-refused e = record {
     refused = λ _. (refl, refl);
     answer = λ is. absurd (unfit e is);
@@ -58,7 +59,7 @@ module _ {ws : List ℕ} {m : LinkedHashMap} (k : ℕ) where
     kept = kept-same (m .capacity) ws;
   }
 
-  pub removing-none : fit (m .capacity) (length ws) ≡ true → ((c s : ℕ) → probe ws (m .capacity) k ≡ probed.At c s → ⊥) → Removing ws m k ws (record { map = m; answer = taken.Nothing })
+  pub removing-none : mapFits (m .capacity) (length ws) ≡ true → ((c s : ℕ) → probe ws (m .capacity) k ≡ probed.At c s → ⊥) → Removing ws m k ws (record { map = m; answer = taken.Nothing })
   unfolding modelOf
   removing-none f none = record {
     refused = λ q. absurd (true≢false (sym f ∙ q));
@@ -69,7 +70,7 @@ module _ {ws : List ℕ} {m : LinkedHashMap} (k : ℕ) where
     kept = kept-same (m .capacity) ws;
   }
 
-  module _ (c s : ℕ) (f : fit (m .capacity) (length ws) ≡ true) (e : probe ws (m .capacity) k ≡ probed.At c s) where
+  module _ (c s : ℕ) (f : mapFits (m .capacity) (length ws) ≡ true) (e : probe ws (m .capacity) k ≡ probed.At c s) where
     taken-laid : IsMap ws m → Laid (takenOut ws (m .capacity) c s) (m .capacity) (ring.without s (liveOf ws m)) (s ∷ freeOf ws m)
     taken-laid is = laid-taken (of-map is) c s (ap (probe ws (m .capacity)) (hit is k e .key) ∙ e)
 
@@ -98,7 +99,7 @@ pub in-front : (ws ws′ : List ℕ) (s : ℕ) (x : Record) (l : List ℕ) → r
 in-front ws ws′ s x l at same = let ih : records ws′ l ≡ records ws l = records-same ws ws′ l same in cc
 
 module _ {ws : List ℕ} {m : LinkedHashMap} (x : Record) where
-  pub putting-refused : fit (m .capacity) (length ws) ≡ false → Putting ws m x ws (record { map = m; answer = placed.Refused })
+  pub putting-refused : mapFits (m .capacity) (length ws) ≡ false → Putting ws m x ws (record { map = m; answer = placed.Refused })
   putting-refused e = record {
     refused = λ _. (refl, refl);
     answer = λ is. absurd (unfit e is);
@@ -110,7 +111,7 @@ module _ {ws : List ℕ} {m : LinkedHashMap} (x : Record) where
   }
 
   -- every cell holds a record: no map
-  pub putting-crowded : fit (m .capacity) (length ws) ≡ true → probe ws (m .capacity) (x .key) ≡ probed.Full → Putting ws m x ws (record { map = m; answer = placed.Full })
+  pub putting-crowded : mapFits (m .capacity) (length ws) ≡ true → probe ws (m .capacity) (x .key) ≡ probed.Full → Putting ws m x ws (record { map = m; answer = placed.Full })
   putting-crowded f e = record {
     refused = λ q. absurd (true≢false (sym f ∙ q));
     answer = λ is. absurd (never-full (is .index) (x .key) e);
@@ -121,7 +122,7 @@ module _ {ws : List ℕ} {m : LinkedHashMap} (x : Record) where
     kept = kept-same (m .capacity) ws;
   }
 
-  module _ (c s : ℕ) (f : fit (m .capacity) (length ws) ≡ true) (e : probe ws (m .capacity) (x .key) ≡ probed.At c s) where
+  module _ (c s : ℕ) (f : mapFits (m .capacity) (length ws) ≡ true) (e : probe ws (m .capacity) (x .key) ≡ probed.At c s) where
     replaced-laid : IsMap ws m → Laid (replaced ws (m .capacity) s x) (m .capacity) (s ∷ ring.without s (liveOf ws m)) (freeOf ws m)
     unfolding replaced
     replaced-laid is =
@@ -192,7 +193,7 @@ put-record ws n c s x y b h =
     record-moved (n + 2) (setCell (written ws s x) n c (s + 1)) n s y
     ∙ record-below n (written ws s x) (setCell (written ws s x) n c (s + 1)) (λ j q. set-outside (written ws s x) n c (s + 1) b j (inl q)) y h
 
-module _ (ws : List ℕ) (m : LinkedHashMap) (x : Record) (c : ℕ) (f : fit (m .capacity) (length ws) ≡ true) (e : probe ws (m .capacity) (x .key) ≡ probed.Free c) where
+module _ (ws : List ℕ) (m : LinkedHashMap) (x : Record) (c : ℕ) (f : mapFits (m .capacity) (length ws) ≡ true) (e : probe ws (m .capacity) (x .key) ≡ probed.Free c) where
   -- the first free record, or where there is none the ring's own node
   first-free : IsMap ws m → ring.next ws (m .capacity + 1) ≡ getD (freeOf ws m) 0 (m .capacity + 1)
   first-free is = next-sentinel (two-swap (is .rings))

@@ -6,6 +6,7 @@ use mathlib.Core.List.{List, _∷_, List·Memᴰ}
 use Prim.Native.Nat.{ℕ, _+_, _*_, _/_, _%_, _<_}
 use native.Mathlib.Omega.{arith}
 use lib.ListN.{length}
+use Rattle.limits.specs.Limits.{mapFits}
 use Rattle.rings.specs.Ring as ring
 use Rattle.rings.proofs.Counts.{mem-without}
 use Rattle.rings.proofs.Links.{getD-moved, past-moved}
@@ -20,7 +21,7 @@ use Rattle.cells.proofs.Indexing.{erased-length, erased-outside, never-full}
 use Rattle.linked_hash_map.specs.declared.map.LinkedHashMap.{LinkedHashMap}
 use Rattle.linked_hash_map.specs.declared.map.Record.{Record}
 use Rattle.linked_hash_map.specs.declared.map.Taken.the-variants as taken
-use Rattle.linked_hash_map.specs.Words.{fit, recordAt, takenOut, putIn}
+use Rattle.linked_hash_map.specs.Words.{recordAt, takenOut, putIn}
 use Rattle.linked_hash_map.specs.Numbers.{shrunkMap, Grown, Renewing}
 use Rattle.linked_hash_map.specs.Model.{Model, has, without, recycled}
 use Rattle.linked_hash_map.specs.Map.{IsMap, liveOf, freeOf, modelOf}
@@ -47,7 +48,7 @@ unfolding recycled
 recycled-new k x m e h = rw (e, h)
 
 module _ {ws : List ℕ} {m : LinkedHashMap} (k : ℕ) (x : Record) where
-  pub recycling-refused : fit (m .capacity) (length ws) ≡ false → Recycling ws m k x ws m
+  pub recycling-refused : mapFits (m .capacity) (length ws) ≡ false → Recycling ws m k x ws m
   recycling-refused e = record {
     refused = λ _. (refl, refl);
     capacity = refl;
@@ -56,7 +57,7 @@ module _ {ws : List ℕ} {m : LinkedHashMap} (k : ℕ) (x : Record) where
     kept = kept-same (m .capacity) ws;
   }
 
-  pub recycling-none : fit (m .capacity) (length ws) ≡ true → ((c s : ℕ) → probe ws (m .capacity) k ≡ probed.At c s → ⊥) → Recycling ws m k x ws m
+  pub recycling-none : mapFits (m .capacity) (length ws) ≡ true → ((c s : ℕ) → probe ws (m .capacity) k ≡ probed.At c s → ⊥) → Recycling ws m k x ws m
   recycling-none f none = record {
     refused = λ q. absurd (true≢false (sym f ∙ q));
     capacity = refl;
@@ -65,7 +66,7 @@ module _ {ws : List ℕ} {m : LinkedHashMap} (k : ℕ) (x : Record) where
     kept = kept-same (m .capacity) ws;
   }
 
-module _ (ws : List ℕ) (m : LinkedHashMap) (k : ℕ) (x : Record) (c s : ℕ) (f : fit (m .capacity) (length ws) ≡ true) (e : probe ws (m .capacity) k ≡ probed.At c s) where
+module _ (ws : List ℕ) (m : LinkedHashMap) (k : ℕ) (x : Record) (c s : ℕ) (f : mapFits (m .capacity) (length ws) ≡ true) (e : probe ws (m .capacity) k ≡ probed.At c s) where
   abbrev n : ℕ
   n = m .capacity
 

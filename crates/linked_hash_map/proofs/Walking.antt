@@ -7,12 +7,12 @@ use native.Mathlib.Nat.{not-suc-le-zero, le-of-suc-le-suc}
 use native.Mathlib.Omega.{arith}
 use lib.ListN.{length, getD, List·getD-eq-default}
 use borrow.Author.Tests.{lt-ltb, le-ltb}
+use Rattle.limits.specs.Limits.{mapFits}
 use Rattle.rings.specs.Ring.{prev, next}
 use Rattle.rings.proofs.Counts.{by-lt}
 use Rattle.rings.proofs.Two.{next-sentinel, next-at, prev-first, prev-at, prev-sentinel}
 use Rattle.linked_hash_map.specs.declared.map.LinkedHashMap.{LinkedHashMap}
 use Rattle.linked_hash_map.specs.declared.map.Slot.the-variants as slot
-use Rattle.linked_hash_map.specs.Words.{fit}
 use Rattle.linked_hash_map.specs.Numbers.{slotFrom}
 use Rattle.linked_hash_map.specs.Map.{IsMap, liveOf, slotAt}
 use Rattle.linked_hash_map.specs.Calls.{Ending, Next, Previous}
@@ -51,16 +51,16 @@ place-node {ws} {m} is i s e =
     (b, getD-any (liveOf ws m) i (m .capacity) 0 b ∙ p .1)
 
 module _ {ws : List ℕ} {m : LinkedHashMap} where
-  pub ending-refused : (i : ℕ) → fit (m .capacity) (length ws) ≡ false → Ending ws m i slot.Refused
+  pub ending-refused : (i : ℕ) → mapFits (m .capacity) (length ws) ≡ false → Ending ws m i slot.Refused
   ending-refused i e = record { refused = λ _. refl; answer = λ is. absurd (unfit e is) }
 
-  pub first-is : fit (m .capacity) (length ws) ≡ true → Ending ws m 0 (slotFrom (m .capacity) (next ws (m .capacity)))
+  pub first-is : mapFits (m .capacity) (length ws) ≡ true → Ending ws m 0 (slotFrom (m .capacity) (next ws (m .capacity)))
   first-is f = record {
     refused = λ q. absurd (true≢false (sym f ∙ q));
     answer = λ is. ap (slotFrom (m .capacity)) (next-sentinel (is .rings)) ∙ link-slot is 0;
   }
 
-  pub last-is : fit (m .capacity) (length ws) ≡ true → Ending ws m (m .len - 1) (slotFrom (m .capacity) (prev ws (m .capacity)))
+  pub last-is : mapFits (m .capacity) (length ws) ≡ true → Ending ws m (m .len - 1) (slotFrom (m .capacity) (prev ws (m .capacity)))
   last-is f = record {
     refused = λ q. absurd (true≢false (sym f ∙ q));
     answer = λ is.
@@ -72,16 +72,16 @@ module _ {ws : List ℕ} {m : LinkedHashMap} where
   slot-below : (is : IsMap ws m) (i s : ℕ) → slotAt ws m i ≡ slot.At s → s < m .capacity
   slot-below is i s e = let p = place-node is i s e in rw (sym (p .1)) (live-below (of-map is) (mem-at (liveOf ws m) i (m .capacity) (p .0)))
 
-  pub next-refused : (s : ℕ) → fit (m .capacity) (length ws) ≡ false → Next ws m s slot.Refused
+  pub next-refused : (s : ℕ) → mapFits (m .capacity) (length ws) ≡ false → Next ws m s slot.Refused
   next-refused s e = record { refused = λ _. refl; answer = λ is. absurd (unfit e is) }
 
-  pub next-past : (s : ℕ) → fit (m .capacity) (length ws) ≡ true → m .capacity ≤ s → Next ws m s slot.Nothing
+  pub next-past : (s : ℕ) → mapFits (m .capacity) (length ws) ≡ true → m .capacity ≤ s → Next ws m s slot.Nothing
   next-past s f h = record {
     refused = λ q. absurd (true≢false (sym f ∙ q));
     answer = λ is i e. absurd (omega (arith, slot-below is i s e));
   }
 
-  pub next-is : (s : ℕ) → fit (m .capacity) (length ws) ≡ true → Next ws m s (slotFrom (m .capacity) (next ws s))
+  pub next-is : (s : ℕ) → mapFits (m .capacity) (length ws) ≡ true → Next ws m s (slotFrom (m .capacity) (next ws s))
   next-is s f = record {
     refused = λ q. absurd (true≢false (sym f ∙ q));
     answer = λ is i e.
@@ -91,17 +91,17 @@ module _ {ws : List ℕ} {m : LinkedHashMap} where
         ∙ link-slot is (i + 1);
   }
 
-  pub previous-refused : (s : ℕ) → fit (m .capacity) (length ws) ≡ false → Previous ws m s slot.Refused
+  pub previous-refused : (s : ℕ) → mapFits (m .capacity) (length ws) ≡ false → Previous ws m s slot.Refused
   previous-refused s e = record { refused = λ _. refl; front = λ is. absurd (unfit e is); answer = λ is. absurd (unfit e is) }
 
-  pub previous-past : (s : ℕ) → fit (m .capacity) (length ws) ≡ true → m .capacity ≤ s → Previous ws m s slot.Nothing
+  pub previous-past : (s : ℕ) → mapFits (m .capacity) (length ws) ≡ true → m .capacity ≤ s → Previous ws m s slot.Nothing
   previous-past s f h = record {
     refused = λ q. absurd (true≢false (sym f ∙ q));
     front = λ is e. refl;
     answer = λ is i e. absurd (omega (arith, slot-below is (i + 1) s e));
   }
 
-  pub previous-is : (s : ℕ) → fit (m .capacity) (length ws) ≡ true → Previous ws m s (slotFrom (m .capacity) (prev ws s))
+  pub previous-is : (s : ℕ) → mapFits (m .capacity) (length ws) ≡ true → Previous ws m s (slotFrom (m .capacity) (prev ws s))
   unfolding slotFrom
   previous-is s f = record {
     refused = λ q. absurd (true≢false (sym f ∙ q));

@@ -1,9 +1,9 @@
 -- How many words a map takes, and what its calls do to the words as words.
 use mathlib.Core.Path.{_≡_}
-use mathlib.Core.Bool.{Bool, cond, _&&_}
+use mathlib.Core.Bool.{cond}
 use mathlib.Core.List.{List}
 use Prim.Native.Nat.{ℕ, zero, suc, _+_, _*_, _≤_}
-use lib.Dec.{leb, ltb}
+use lib.Dec.{ltb}
 use lib.ListN.{length, getD, set}
 use Rattle.rings.specs.Ring.{next, joined, attached, moved, spliced}
 use Rattle.cells.specs.Cells.{keyAt, cellsFrom, cellWords, setCell, erased, zeroed}
@@ -15,10 +15,6 @@ abbrev pub wordsFor : ℕ → ℕ
 wordsFor n = 8 * n + 58
 
 -- n records are within the limit, and l words are enough for them
-unfoldable pub fit : ℕ → ℕ → Bool
-fit n l = leb n 4096 && leb (wordsFor n) l
-
--- the same, as facts
 pub record Room (l n : ℕ) : Type 0 where
   pub limit : n ≤ 4096
   pub words : wordsFor n ≤ l

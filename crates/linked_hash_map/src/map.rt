@@ -3,7 +3,7 @@ ghost use mathlib.Core.Path.{_≡_};
 ghost use Prim.Native.Nat.{_+_, _-_, _<_, _≤_};
 ghost use lib.ListN.{length};
 ghost use Rattle.cells.specs.Cells.{cellCount};
-ghost use Rattle.linked_hash_map.specs.Words.{fit, Room, Nodes, recordAt, written, emptied, wiped, refilled, replaced, takenOut};
+ghost use Rattle.linked_hash_map.specs.Words.{Room, Nodes, recordAt, written, emptied, wiped, refilled, replaced, takenOut};
 ghost use Rattle.linked_hash_map.specs.Numbers.{emptyMap, shrunkMap, longerMap, slotFrom, lenAfter, Grown, Inserting, Renewing};
 ghost use Rattle.linked_hash_map.specs.Calls.{Opening, Clearing, Draining, Finding, Touching, Reading, Writing, placeOf, ReplacingAt, InsertingAt, TakingAt, Putting, Removing, Recycling, Ending, Next, Previous, Checking};
 use crate::check;
@@ -71,15 +71,6 @@ pub struct Put {
 pub struct Removed {
     pub map: LinkedHashMap,
     pub answer: Taken,
-}
-
-fn has_room(capacity: usize, size: usize) -> bool
-    ensures { λ r. ⌜ r ≡ fit capacity size ⌝ }
-{
-    if 4096 < capacity {
-        return false;
-    }
-    8 * capacity + 58 <= size
 }
 
 fn empty_map(capacity: usize) -> LinkedHashMap
@@ -192,7 +183,7 @@ impl LinkedHashMap {
     pub fn open(words: &mut [u64], capacity: usize) -> Opened
         ensures { λ r. ⌜ Opening (now (words .entry)) capacity (now (words .exit)) r ⌝ }
     {
-        if !has_room(capacity, words.len()) {
+        if !limits::map(capacity, words.len()) {
             return Opened {
                 map: LinkedHashMap {
                     capacity: 0,
@@ -214,7 +205,7 @@ impl LinkedHashMap {
         ensures { λ r. ⌜ Clearing (now (words .entry)) self (now (words .exit)) r ⌝ }
     {
         let n = self.capacity;
-        if !has_room(n, words.len()) {
+        if !limits::map(n, words.len()) {
             return Opened {
                 map: self,
                 is_open: false,
@@ -272,7 +263,7 @@ impl LinkedHashMap {
         ensures { λ r. ⌜ Finding (now (words .entry)) self key r ⌝ }
     {
         let n = self.capacity;
-        if !has_room(n, words.len()) {
+        if !limits::map(n, words.len()) {
             return Slot::Refused;
         }
         match index::probe(words, n, key) {
@@ -287,7 +278,7 @@ impl LinkedHashMap {
         ensures { λ r. ⌜ Touching (now (words .entry)) self key (now (words .exit)) r ⌝ }
     {
         let n = self.capacity;
-        if !has_room(n, words.len()) {
+        if !limits::map(n, words.len()) {
             return Slot::Refused;
         }
         match index::probe(words, n, key) {
@@ -305,7 +296,7 @@ impl LinkedHashMap {
         ensures { λ r. ⌜ Reading (now (words .entry)) self slot r ⌝ }
     {
         let n = self.capacity;
-        if has_room(n, words.len()) {
+        if limits::map(n, words.len()) {
             if slot < n {
                 return read_record(words, slot);
             }
@@ -322,7 +313,7 @@ impl LinkedHashMap {
         ensures { λ r. ⌜ Writing (now (words .entry)) self item (now (words .exit)) r ⌝ }
     {
         let n = self.capacity;
-        if !has_room(n, words.len()) {
+        if !limits::map(n, words.len()) {
             return false;
         }
         match index::probe(words, n, item.key) {
@@ -340,7 +331,7 @@ impl LinkedHashMap {
         ensures { λ r. ⌜ r ≡ placeOf (now (words .entry)) self key ⌝ }
     {
         let n = self.capacity;
-        if !has_room(n, words.len()) {
+        if !limits::map(n, words.len()) {
             return Place::Refused;
         }
         match index::probe(words, n, key) {
@@ -355,7 +346,7 @@ impl LinkedHashMap {
         ensures { λ r. ⌜ ReplacingAt (now (words .entry)) self slot item (now (words .exit)) r ⌝ }
     {
         let n = self.capacity;
-        if !has_room(n, words.len()) {
+        if !limits::map(n, words.len()) {
             return item;
         }
         if n <= slot {
@@ -379,7 +370,7 @@ impl LinkedHashMap {
     ) -> usize
         ensures { λ r. ⌜ InsertingAt (now (words .entry)) (record { capacity = capacity; len = len; refill_in = «refill_in» }) c (record { key = key; first = first; second = second }) (now (words .exit)) r ⌝ }
     {
-        if !has_room(capacity, words.len()) {
+        if !limits::map(capacity, words.len()) {
             return refill_in;
         }
         if 12 * capacity + 192 <= c {
@@ -398,7 +389,7 @@ impl LinkedHashMap {
     pub fn take_at(words: &mut [u64], capacity: usize, c: usize, slot: usize) -> u64
         ensures { λ r. ⌜ TakingAt (now (words .entry)) capacity c slot (now (words .exit)) r ⌝ }
     {
-        if !has_room(capacity, words.len()) {
+        if !limits::map(capacity, words.len()) {
             return 0;
         }
         if capacity <= slot {
@@ -522,7 +513,7 @@ impl LinkedHashMap {
         ensures { λ r. ⌜ Recycling (now (words .entry)) self key item (now (words .exit)) r ⌝ }
     {
         let n = self.capacity;
-        if !has_room(n, words.len()) {
+        if !limits::map(n, words.len()) {
             return self;
         }
         match index::probe(words, n, key) {
@@ -615,7 +606,7 @@ impl LinkedHashMap {
         ensures { λ r. ⌜ Ending (now (words .entry)) self 0 r ⌝ }
     {
         let n = self.capacity;
-        if !has_room(n, words.len()) {
+        if !limits::map(n, words.len()) {
             return Slot::Refused;
         }
         slot_at(n, words[5 * n + 4])
@@ -625,7 +616,7 @@ impl LinkedHashMap {
         ensures { λ r. ⌜ Ending (now (words .entry)) self (self .len - 1) r ⌝ }
     {
         let n = self.capacity;
-        if !has_room(n, words.len()) {
+        if !limits::map(n, words.len()) {
             return Slot::Refused;
         }
         slot_at(n, words[5 * n + 3])
@@ -635,7 +626,7 @@ impl LinkedHashMap {
         ensures { λ r. ⌜ Next (now (words .entry)) self slot r ⌝ }
     {
         let n = self.capacity;
-        if !has_room(n, words.len()) {
+        if !limits::map(n, words.len()) {
             return Slot::Refused;
         }
         if n <= slot {
@@ -648,7 +639,7 @@ impl LinkedHashMap {
         ensures { λ r. ⌜ Previous (now (words .entry)) self slot r ⌝ }
     {
         let n = self.capacity;
-        if !has_room(n, words.len()) {
+        if !limits::map(n, words.len()) {
             return Slot::Refused;
         }
         if n <= slot {
@@ -662,7 +653,7 @@ impl LinkedHashMap {
         ensures { λ r. ⌜ Checking (now (words .entry)) self r ⌝ }
     {
         let n = self.capacity;
-        if !has_room(n, words.len()) {
+        if !limits::map(n, words.len()) {
             return false;
         }
         let len = self.len;

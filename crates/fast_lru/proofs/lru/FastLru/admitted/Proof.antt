@@ -11,4 +11,4 @@ admitted-spec =
     (λ c κs. search needs)
     (λ c. sym (admitted-out _ _ (sym (c .before .out-of-range .ensures) ∙ c .if1 .taken)))
     (λ c κs. search needs)
-    (λ c. c .opening .ensures ∙ sym (admitted-in _ _ (sym (c .before .before .before .out-of-range .ensures) ∙ c .before .before .if1 .left))))
+    (λ c. c .list .ensures ∙ sym (admitted-in _ _ (sym (c .before .before .before .out-of-range .ensures) ∙ c .before .before .if1 .left))))

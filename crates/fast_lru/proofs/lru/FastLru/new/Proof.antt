@@ -12,6 +12,6 @@ new-spec =
     (λ c. search needs)
     (λ c. search needs)
     (λ c κs. search needs)
-    (λ c. opening-refused _ _ _ (sym (c .before .before .before .opening .ensures) ∙ c .before .why .given .1))
+    (λ c. opening-refused _ _ _ (sym (c .before .before .before .list .ensures) ∙ c .before .why .given .1))
     (λ c. search needs)
-    (λ c. let d = c .before .before .before .before .before in opening-done _ _ _ _ (sym (d .before .before .opening .ensures) ∙ d .enum-told .given .1) (c .before .before .before .«open» .ensures)))
+    (λ c. let d = c .before .before .before .before .before in opening-done _ _ _ _ (sym (d .before .before .list .ensures) ∙ d .enum-told .given .1) (c .before .before .before .«open» .ensures)))

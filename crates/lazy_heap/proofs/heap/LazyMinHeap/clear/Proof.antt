@@ -13,6 +13,6 @@ clear-spec =
     (λ c. search needs)
     (λ c κs. search needs)
     (λ c κs. search needs)
-    (λ c. call-refused (sym (c .before .before .before .limits .ensures) ∙ c .before .why .given .1))
+    (λ c. call-refused (sym (c .before .before .before .heap .ensures) ∙ c .before .why .given .1))
     (λ c. search needs)
-    (λ c. clear-call _ (sym (c .before .before .before .before .before .before .before .before .limits .ensures) ∙ c .before .before .before .before .before .before .enum-told .given .1) (c .before .before .before .clear .ensures) (c .before .before .before .before .before .surplus .ensures)))
+    (λ c. clear-call _ (sym (c .before .before .before .before .before .before .before .before .heap .ensures) ∙ c .before .before .before .before .before .before .enum-told .given .1) (c .before .before .before .clear .ensures) (c .before .before .before .before .before .surplus .ensures)))

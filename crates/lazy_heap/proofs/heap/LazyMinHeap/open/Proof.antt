@@ -13,6 +13,6 @@ open-spec =
     (λ c. search needs)
     (λ c κs. search needs)
     (λ c κs. search needs)
-    (λ c. open-refused _ _ _ _ _ (sym (c .before .before .before .limits-with .ensures) ∙ c .before .why .given .1))
+    (λ c. open-refused _ _ _ _ _ (sym (c .before .before .before .heap-with-factor .ensures) ∙ c .before .why .given .1))
     (λ c. search needs)
-    (λ c. open-done _ _ _ (sym (c .before .before .before .before .before .before .before .before .limits-with .ensures) ∙ c .before .before .before .before .before .before .enum-told .given .1) (c .before .before .before .before .«open» .ensures) (c .at-least-one .ensures)))
+    (λ c. open-done _ _ _ (sym (c .before .before .before .before .before .before .before .before .heap-with-factor .ensures) ∙ c .before .before .before .before .before .before .enum-told .given .1) (c .before .before .before .before .«open» .ensures) (c .at-least-one .ensures)))

@@ -11,6 +11,6 @@ score-of-spec =
     (λ c κs. search needs)
     (λ c. search needs)
     (λ c. search needs)
-    (λ c κs. limits-room _ _ (sym (c .before .before .limits .ensures) ∙ c .enum-told .given .1))
-    (λ c. let e = sym (c .before .before .before .limits .ensures) ∙ c .before .why .given .1 in record { outcome = sym e; answer = λ is. absurd (no-heap e is) })
+    (λ c κs. limits-room _ _ (sym (c .before .before .heap .ensures) ∙ c .enum-told .given .1))
+    (λ c. let e = sym (c .before .before .before .heap .ensures) ∙ c .before .why .given .1 in record { outcome = sym e; answer = λ is. absurd (no-heap e is) })
     (λ c. c .held-score .ensures))

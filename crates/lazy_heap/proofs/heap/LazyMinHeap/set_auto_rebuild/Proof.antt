@@ -12,5 +12,5 @@ set-auto-rebuild-spec =
     (λ c. search needs)
     (λ c. search needs)
     (λ c κs. search needs)
-    (λ c. call-refused (sym (c .before .before .before .limits-with .ensures) ∙ c .before .why .given .1))
-    (λ c. factor-call _ _ _ (sym (c .before .before .before .before .limits-with .ensures) ∙ c .before .before .enum-told .given .1) (c .at-least-one .ensures)))
+    (λ c. call-refused (sym (c .before .before .before .heap-with-factor .ensures) ∙ c .before .why .given .1))
+    (λ c. factor-call _ _ _ (sym (c .before .before .before .before .heap-with-factor .ensures) ∙ c .before .before .enum-told .given .1) (c .at-least-one .ensures)))

@@ -9,11 +9,11 @@ clear-spec =
     tie.close
     (tie.spec
     (λ c κs. search needs)
-    (λ c. clearing-refused _ _ (no-room (c .before .has-room .ensures) (c .if1 .taken)))
+    (λ c. clearing-refused _ _ (no-room (c .before .map .ensures) (c .if1 .taken)))
     (λ c κs. search needs)
     (λ c. search needs)
-    (λ c. clearing-drained _ _ (room (c .before .before .before .before .before .before .before .has-room .ensures) (c .before .before .before .before .before .before .if1 .left)) (c .before .before .drained .ensures))
-    (λ c κs. is-room _ _ (room (c .before .before .before .before .has-room .ensures) (c .before .before .before .if1 .left)))
-    (λ c κs. is-room _ _ (room (c .before .before .before .before .before .before .before .has-room .ensures) (c .before .before .before .before .before .before .if1 .left)) .limit)
+    (λ c. clearing-drained _ _ (room (c .before .before .before .before .before .before .before .map .ensures) (c .before .before .before .before .before .before .if1 .left)) (c .before .before .drained .ensures))
+    (λ c κs. is-room _ _ (room (c .before .before .before .before .map .ensures) (c .before .before .before .if1 .left)))
+    (λ c κs. is-room _ _ (room (c .before .before .before .before .before .before .before .map .ensures) (c .before .before .before .before .before .before .if1 .left)) .limit)
     (λ c. search needs)
-    (λ c. rw (c .before .before .before .wipe .ensures, c .empty-map .ensures) (clearing-wiped _ _ (room (c .before .before .before .before .before .before .before .before .has-room .ensures) (c .before .before .before .before .before .before .before .if1 .left)))))
+    (λ c. rw (c .before .before .before .wipe .ensures, c .empty-map .ensures) (clearing-wiped _ _ (room (c .before .before .before .before .before .before .before .before .map .ensures) (c .before .before .before .before .before .before .before .if1 .left)))))

@@ -11,11 +11,11 @@ find-spec =
     tie.close
     (tie.spec
     (λ c κs. search needs)
-    (λ c. finding-refused _ (no-room (c .before .has-room .ensures) (c .if1 .taken)))
-    (λ c κs. is-room _ _ (room (c .before .has-room .ensures) (c .if1 .left)))
+    (λ c. finding-refused _ (no-room (c .before .map .ensures) (c .if1 .taken)))
+    (λ c κs. is-room _ _ (room (c .before .map .ensures) (c .if1 .left)))
     (λ c. search needs)
     (λ c. search needs)
     (λ c. search needs)
-    (λ c. let p = c .before .before .before in finding-at _ (room (p .before .before .has-room .ensures) (p .before .if1 .left)) (sym (p .probe .ensures) ∙ c .before .s .given .1))
-    (λ c. let p = c .before .before in finding-none _ (room (p .before .before .has-room .ensures) (p .before .if1 .left)) (free-not-at (sym (p .probe .ensures) ∙ c .enum-told .given .1)))
-    (λ c. let p = c .before .before in finding-none _ (room (p .before .before .has-room .ensures) (p .before .if1 .left)) (full-not-at (sym (p .probe .ensures) ∙ c .enum-told2 .given .1))))
+    (λ c. let p = c .before .before .before in finding-at _ (room (p .before .before .map .ensures) (p .before .if1 .left)) (sym (p .probe .ensures) ∙ c .before .s .given .1))
+    (λ c. let p = c .before .before in finding-none _ (room (p .before .before .map .ensures) (p .before .if1 .left)) (free-not-at (sym (p .probe .ensures) ∙ c .enum-told .given .1)))
+    (λ c. let p = c .before .before in finding-none _ (room (p .before .before .map .ensures) (p .before .if1 .left)) (full-not-at (sym (p .probe .ensures) ∙ c .enum-told2 .given .1))))

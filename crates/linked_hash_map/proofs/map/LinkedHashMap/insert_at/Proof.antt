@@ -10,10 +10,10 @@ insert-at-spec =
     tie.close
     (tie.spec
     (λ c κs. search needs)
-    (λ c. inserting-unfit _ _ (no-room (c .before .has-room .ensures) (c .if1 .taken)))
-    (λ c. let r = is-room _ _ (room (c .before .has-room .ensures) (c .if1 .left)) in omega (arith, r .limit))
-    (λ c. let r = is-room _ _ (room (c .before .has-room .ensures) (c .if1 .left)) in omega (arith, r .limit))
-    (λ c. inserting-beyond _ _ (room (c .before .before .has-room .ensures) (c .before .if1 .left)) (c .if2 .taken))
-    (λ c κs. (is-room _ _ (room (c .before .before .before .has-room .ensures) (c .before .before .if1 .left)), omega arith))
+    (λ c. inserting-unfit _ _ (no-room (c .before .map .ensures) (c .if1 .taken)))
+    (λ c. let r = is-room _ _ (room (c .before .map .ensures) (c .if1 .left)) in omega (arith, r .limit))
+    (λ c. let r = is-room _ _ (room (c .before .map .ensures) (c .if1 .left)) in omega (arith, r .limit))
+    (λ c. inserting-beyond _ _ (room (c .before .before .map .ensures) (c .before .if1 .left)) (c .if2 .taken))
+    (λ c κs. (is-room _ _ (room (c .before .before .before .map .ensures) (c .before .before .if1 .left)), omega arith))
     (λ c. search needs)
-    (λ c. inserting-at _ _ (room (c .before .before .before .before .before .before .has-room .ensures) (c .before .before .before .before .before .if1 .left)) _ _ (omega arith) (c .before .before .insert .ensures)))
+    (λ c. inserting-at _ _ (room (c .before .before .before .before .before .before .map .ensures) (c .before .before .before .before .before .if1 .left)) _ _ (omega arith) (c .before .before .insert .ensures)))

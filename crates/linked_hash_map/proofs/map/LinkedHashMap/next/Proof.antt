@@ -10,11 +10,11 @@ next-spec =
     tie.close
     (tie.spec
     (λ c κs. search needs)
-    (λ c. next-refused _ (no-room (c .before .has-room .ensures) (c .if1 .taken)))
-    (λ c. next-past _ (room (c .before .before .has-room .ensures) (c .before .if1 .left)) (c .if2 .taken))
-    (λ c. let r = is-room _ _ (room (c .before .before .has-room .ensures) (c .before .if1 .left)) in omega (arith, r .limit, r .words))
-    (λ c. let r = is-room _ _ (room (c .before .before .has-room .ensures) (c .before .if1 .left)) in omega (arith, r .limit, r .words))
-    (λ c. let r = is-room _ _ (room (c .before .before .has-room .ensures) (c .before .if1 .left)) in omega (arith, r .limit, r .words))
-    (λ c. let r = is-room _ _ (room (c .before .before .before .has-room .ensures) (c .before .before .if1 .left)) in omega (arith, r .limit, r .words))
+    (λ c. next-refused _ (no-room (c .before .map .ensures) (c .if1 .taken)))
+    (λ c. next-past _ (room (c .before .before .map .ensures) (c .before .if1 .left)) (c .if2 .taken))
+    (λ c. let r = is-room _ _ (room (c .before .before .map .ensures) (c .before .if1 .left)) in omega (arith, r .limit, r .words))
+    (λ c. let r = is-room _ _ (room (c .before .before .map .ensures) (c .before .if1 .left)) in omega (arith, r .limit, r .words))
+    (λ c. let r = is-room _ _ (room (c .before .before .map .ensures) (c .before .if1 .left)) in omega (arith, r .limit, r .words))
+    (λ c. let r = is-room _ _ (room (c .before .before .before .map .ensures) (c .before .before .if1 .left)) in omega (arith, r .limit, r .words))
     (λ c κs. search needs)
-    (λ c. rw (c .slot-at .ensures) (next-is _ (room (c .before .before .before .before .has-room .ensures) (c .before .before .before .if1 .left)))))
+    (λ c. rw (c .slot-at .ensures) (next-is _ (room (c .before .before .before .before .map .ensures) (c .before .before .before .if1 .left)))))

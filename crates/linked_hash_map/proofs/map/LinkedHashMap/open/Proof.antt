@@ -9,8 +9,8 @@ open-spec =
     tie.close
     (tie.spec
     (λ c κs. search needs)
-    (λ c. opening-refused _ _ (no-room (c .before .has-room .ensures) (c .if1 .taken)))
-    (λ c κs. is-room _ _ (room (c .before .before .has-room .ensures) (c .before .if1 .left)))
-    (λ c κs. is-room _ _ (room (c .before .before .before .before .before .has-room .ensures) (c .before .before .before .before .if1 .left)) .limit)
+    (λ c. opening-refused _ _ (no-room (c .before .map .ensures) (c .if1 .taken)))
+    (λ c κs. is-room _ _ (room (c .before .before .map .ensures) (c .before .if1 .left)))
+    (λ c κs. is-room _ _ (room (c .before .before .before .before .before .map .ensures) (c .before .before .before .before .if1 .left)) .limit)
     (λ c. search needs)
-    (λ c. rw (c .before .before .before .empty-words .ensures, c .empty-map .ensures) (opening _ _ (room (c .before .before .before .before .before .before .has-room .ensures) (c .before .before .before .before .before .if1 .left)))))
+    (λ c. rw (c .before .before .before .empty-words .ensures, c .empty-map .ensures) (opening _ _ (room (c .before .before .before .before .before .before .map .ensures) (c .before .before .before .before .before .if1 .left)))))

@@ -11,7 +11,7 @@ record-spec =
     tie.close
     (tie.spec
     (λ c κs. search needs)
-    (λ c κs. let r = is-room _ _ (sym (c .before .before .has-room .ensures) ∙ c .before .if1 .taken) in omega (arith, r .limit, r .words))
-    (λ c. let i = c .before in let f = i .before in rw (c .read-record .ensures) (reading _ _ _ (sym (f .before .has-room .ensures) ∙ f .if1 .taken) (i .if2 .taken)))
+    (λ c κs. let r = is-room _ _ (sym (c .before .before .map .ensures) ∙ c .before .if1 .taken) in omega (arith, r .limit, r .words))
+    (λ c. let i = c .before in let f = i .before in rw (c .read-record .ensures) (reading _ _ _ (sym (f .before .map .ensures) ∙ f .if1 .taken) (i .if2 .taken)))
     (λ c. reading-none _ _ _ (λ is. c .if2 .left))
-    (λ c. reading-none _ _ _ (λ is. absurd (unfit (sym (c .before .has-room .ensures) ∙ c .if1 .left) is))))
+    (λ c. reading-none _ _ _ (λ is. absurd (unfit (sym (c .before .map .ensures) ∙ c .if1 .left) is))))

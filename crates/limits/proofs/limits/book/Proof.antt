@@ -1,12 +1,12 @@
 use borrow.Author.Tests.{eq-eqb, ne-eqb, lt-ltb, le-ltb}
-use Rattle.expiring.specs.Book.{limitsOf}
+use Rattle.limits.specs.Limits.{bookLimits}
 use borrow.Author.Needs.{needs}
-use Rattle.expiring.proofs.expiring.limits.Statement.{statement}
-use Rattle.expiring.proofs.expiring.limits.Tie as tie
+use Rattle.limits.proofs.limits.book.Statement.{statement}
+use Rattle.limits.proofs.limits.book.Tie as tie
 
-pub limits-spec : {M : Type 1} → statement M
-unfolding limitsOf
-limits-spec =
+pub book-spec : {M : Type 1} → statement M
+unfolding bookLimits
+book-spec =
     tie.close
     (tie.spec
     (λ c. rw (lt-ltb _ _ (c .if1 .taken)))

@@ -1,12 +1,12 @@
 use borrow.Author.Tests.{eq-eqb, ne-eqb, lt-ltb, le-ltb}
 use borrow.Author.Needs.{needs}
-use Rattle.lazy_heap.specs.Words.{limitsOf}
-use Rattle.lazy_heap.proofs.heap.limits.Statement.{statement}
-use Rattle.lazy_heap.proofs.heap.limits.Tie as tie
+use Rattle.limits.specs.Limits.{heapLimits}
+use Rattle.limits.proofs.limits.heap.Statement.{statement}
+use Rattle.limits.proofs.limits.heap.Tie as tie
 
-pub limits-spec : {M : Type 1} → statement M
-unfolding limitsOf
-limits-spec =
+pub heap-spec : {M : Type 1} → statement M
+unfolding heapLimits
+heap-spec =
     tie.close
     (tie.spec
     (λ c. rw (eq-eqb _ _ (c .if1 .taken)))
