@@ -12,7 +12,7 @@ use Rattle.time.specs.declared.refusal.Refusal.{Refusal}
 use Rattle.time.specs.declared.refusal.Refusal.the-variants.{InvalidNanos, KeyLimitReached}
 use Rattle.time.specs.declared.refusal.Outcome.the-variants.{Done, Refused}
 use Rattle.lazy_heap_model.specs.Model.{Heap}
-use Rattle.fast_lru.specs.Model.{Items}
+use Rattle.fast_lru_model.specs.Model.{Items}
 use Rattle.expiration_index.specs.Model.{Pairs}
 use Rattle.expiring_model.specs.declared.answers.Answer.{Answer}
 use Rattle.expiring_model.specs.declared.answers.Answer.the-variants as answers

@@ -12,11 +12,11 @@ use Rattle.time.specs.declared.tick.Tick.{Tick}
 use Rattle.time.specs.declared.refusal.Refusal.{Refusal}
 use Rattle.time.specs.declared.refusal.Outcome.the-variants.{Done, Refused}
 use Rattle.lazy_heap_model.specs.Model.{heapLen}
-use Rattle.fast_lru.specs.declared.answers.Told.{Told}
-use Rattle.fast_lru.specs.declared.answers.Told.the-variants as told
-use Rattle.fast_lru.specs.declared.answers.Count.{Count}
-use Rattle.fast_lru.specs.declared.answers.Count.the-variants as stored
-use Rattle.fast_lru.specs.Model as list
+use Rattle.fast_lru_model.specs.declared.answers.Told.{Told}
+use Rattle.fast_lru_model.specs.declared.answers.Told.the-variants as told
+use Rattle.fast_lru_model.specs.declared.answers.Count.{Count}
+use Rattle.fast_lru_model.specs.declared.answers.Count.the-variants as stored
+use Rattle.fast_lru_model.specs.Model as list
 use Rattle.fast_lru.specs.Calls as lru
 use Rattle.fast_lru.specs.Lru as lists
 use Rattle.expiration_index.specs.declared.answers.Deadline.{Deadline}

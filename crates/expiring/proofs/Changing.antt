@@ -10,10 +10,10 @@ use Rattle.time.specs.declared.tick.Tick.{Tick}
 use Rattle.time.specs.declared.refusal.Refusal.the-variants.{KeyLimitReached}
 use Rattle.time.specs.declared.refusal.Outcome.{Outcome}
 use Rattle.time.specs.declared.refusal.Outcome.the-variants.{Done}
-use Rattle.fast_lru.specs.declared.answers.Found.{Found}
+use Rattle.fast_lru_model.specs.declared.answers.Found.{Found}
 use Rattle.fast_lru.specs.declared.answers.Got.{Got}
-use Rattle.fast_lru.specs.Model.{Items}
-use Rattle.fast_lru.specs.Model as list
+use Rattle.fast_lru_model.specs.Model.{Items}
+use Rattle.fast_lru_model.specs.Model as list
 use Rattle.fast_lru.specs.Calls as lru
 use Rattle.expiration_index.specs.declared.answers.Changed.{Changed}
 use Rattle.expiration_index.specs.declared.answers.Deadline.{Deadline}

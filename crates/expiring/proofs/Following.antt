@@ -16,20 +16,20 @@ use Rattle.time.specs.declared.refusal.Refusal.the-variants.{KeyLimitReached}
 use Rattle.time.specs.declared.refusal.Outcome.the-variants.{Done}
 use Rattle.time.specs.Duration.{isZero, isDuration, millisOf}
 use Rattle.time.specs.Deadline.{deadlineFrom, remainingAt}
-use Rattle.fast_lru.specs.declared.answers.Told.{Told}
-use Rattle.fast_lru.specs.declared.answers.Told.the-variants as told
+use Rattle.fast_lru_model.specs.declared.answers.Told.{Told}
+use Rattle.fast_lru_model.specs.declared.answers.Told.the-variants as told
 use Rattle.fast_lru.specs.declared.answers.Touched.{Touched}
-use Rattle.fast_lru.specs.declared.answers.Found.{Found}
+use Rattle.fast_lru_model.specs.declared.answers.Found.{Found}
 use Rattle.fast_lru.specs.declared.answers.Got.{Got}
-use Rattle.fast_lru.specs.declared.answers.Oldest.{Oldest}
-use Rattle.fast_lru.specs.declared.answers.Oldest.the-variants as oldest
+use Rattle.fast_lru_model.specs.declared.answers.Oldest.{Oldest}
+use Rattle.fast_lru_model.specs.declared.answers.Oldest.the-variants as oldest
 use Rattle.fast_lru.specs.declared.answers.Popped.{Popped}
-use Rattle.fast_lru.specs.declared.answers.Rank.{Rank}
-use Rattle.fast_lru.specs.declared.answers.Rank.the-variants as rank
+use Rattle.fast_lru_model.specs.declared.answers.Rank.{Rank}
+use Rattle.fast_lru_model.specs.declared.answers.Rank.the-variants as rank
 use Rattle.fast_lru.specs.declared.answers.Ranked.{Ranked}
 use Rattle.fast_lru.specs.declared.answers.Opened.{Opened}
-use Rattle.fast_lru.specs.Model.{Item, toFront, popped, last, oldestOf}
-use Rattle.fast_lru.specs.Model as list
+use Rattle.fast_lru_model.specs.Model.{Item, toFront, popped, last, oldestOf}
+use Rattle.fast_lru_model.specs.Model as list
 use Rattle.fast_lru.specs.Calls as lru
 use Rattle.expiration_index.specs.declared.answers.Deadline.{Deadline}
 use Rattle.expiration_index.specs.declared.answers.Deadline.the-variants as deadline

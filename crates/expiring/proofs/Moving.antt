@@ -11,7 +11,7 @@ use Rattle.lazy_heap_model.specs.Model.{Heap, removed, peeked, stale}
 use Rattle.lazy_heap.specs.Calls.{nothing}
 use Rattle.lazy_heap.specs.Words as heap
 use Rattle.fast_lru.specs.declared.lru.FastLru.{FastLru}
-use Rattle.fast_lru.specs.Model.{Items}
+use Rattle.fast_lru_model.specs.Model.{Items}
 use Rattle.fast_lru.specs.Lru as lru
 use Rattle.fast_lru.proofs.Laws as list
 use Rattle.expiration_index.specs.declared.index.ExpirationIndex.{ExpirationIndex}

@@ -9,7 +9,7 @@ use lib.ListN.{length}
 use Rattle.time.specs.declared.tick.Tick.{Tick}
 use Rattle.time.specs.declared.refusal.Refusal.{Refusal}
 use Rattle.lazy_heap_model.specs.Model.{stale}
-use Rattle.fast_lru.specs.Model as list
+use Rattle.fast_lru_model.specs.Model as list
 use Rattle.expiration_index.specs.declared.answers.Due.the-variants as due
 use Rattle.expiration_index.specs.declared.answers.Looked.{Looked}
 use Rattle.expiration_index.specs.Model.{Pair, pairIn, nextExpired, expiredDue}

@@ -11,7 +11,7 @@ use Rattle.time.specs.declared.tick.Tick.{Tick}
 use Rattle.time.specs.declared.refusal.Outcome.the-variants.{Done}
 use Rattle.lazy_heap_model.specs.Model.{popped}
 use Rattle.lazy_heap.proofs.Laws.{fair-heap}
-use Rattle.fast_lru.specs.Model as list
+use Rattle.fast_lru_model.specs.Model as list
 use Rattle.expiration_index.specs.Model.{Pair, nextExpired, expiredCount, less, Distinct}
 use Rattle.expiration_index.specs.Model as pairs
 use Rattle.expiration_index.specs.Calls.{poppedExpired, takenIf}

@@ -24,8 +24,8 @@ use Rattle.lazy_heap.specs.Valid.{Valid}
 use Rattle.lazy_heap.proofs.Helds.{lookup-mem, live-held}
 use Rattle.lazy_heap.proofs.Stepping.{same-heap}
 use Rattle.lazy_heap.proofs.Valid.{first-live}
-use Rattle.fast_lru.specs.Model.{Items}
-use Rattle.fast_lru.specs.Model as list
+use Rattle.fast_lru_model.specs.Model.{Items}
+use Rattle.fast_lru_model.specs.Model as list
 use Rattle.fast_lru.proofs.Lists as lists
 use Rattle.expiration_index.specs.Model.{Pair, Pairs, next, less, ifExpired, nextExpired, expiredCount, unexpired, Distinct}
 use Rattle.expiration_index.specs.Model as pairs

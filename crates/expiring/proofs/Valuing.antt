@@ -11,11 +11,11 @@ use Rattle.time.specs.declared.refusal.Refusal.{Refusal}
 use Rattle.time.specs.declared.refusal.Refusal.the-variants.{KeyLimitReached}
 use Rattle.time.specs.declared.refusal.Outcome.the-variants as outcome
 use Rattle.lazy_heap_model.specs.Model.{updated, updateDiscards}
-use Rattle.fast_lru.specs.declared.answers.Found.{Found}
-use Rattle.fast_lru.specs.declared.answers.Found.the-variants as found
+use Rattle.fast_lru_model.specs.declared.answers.Found.{Found}
+use Rattle.fast_lru_model.specs.declared.answers.Found.the-variants as found
 use Rattle.fast_lru.specs.declared.answers.Got.{Got}
-use Rattle.fast_lru.specs.Model.{Item, Items}
-use Rattle.fast_lru.specs.Model as list
+use Rattle.fast_lru_model.specs.Model.{Item, Items}
+use Rattle.fast_lru_model.specs.Model as list
 use Rattle.fast_lru.specs.Calls as lru
 use Rattle.expiration_index.specs.declared.answers.Deadline.{Deadline}
 use Rattle.expiration_index.specs.declared.answers.Deadline.the-variants as deadline

@@ -8,7 +8,7 @@ use Prim.Native.Nat.{ℕ, _<_, _≤_}
 use lib.ListN.{length, getD}
 use Rattle.time.specs.declared.tick.Tick.{Tick}
 use Rattle.time.specs.declared.refusal.Refusal.the-variants.{TooFewWords}
-use Rattle.fast_lru.specs.declared.answers.Found.{Found}
+use Rattle.fast_lru_model.specs.declared.answers.Found.{Found}
 use Rattle.fast_lru.specs.Calls as lru
 use Rattle.expiration_index.specs.declared.answers.Deadline.{Deadline}
 use Rattle.expiring_model.specs.declared.answers.Answer.{Answer}

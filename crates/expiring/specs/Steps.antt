@@ -14,9 +14,9 @@ use Rattle.time.specs.declared.refusal.Outcome.the-variants.{Done}
 use Rattle.time.specs.Duration.{ticksOf}
 use Rattle.lazy_heap_model.specs.Model.{opened, stale}
 use Rattle.fast_lru.specs.declared.lru.FastLru.{FastLru}
-use Rattle.fast_lru.specs.declared.answers.Found.{Found}
-use Rattle.fast_lru.specs.Model.{Items, inserted}
-use Rattle.fast_lru.specs.Model as list
+use Rattle.fast_lru_model.specs.declared.answers.Found.{Found}
+use Rattle.fast_lru_model.specs.Model.{Items, inserted}
+use Rattle.fast_lru_model.specs.Model as list
 use Rattle.fast_lru.specs.Lru as lru
 use Rattle.expiration_index.specs.declared.index.ExpirationIndex.{ExpirationIndex}
 use Rattle.expiration_index.specs.declared.answers.Deadline.{Deadline}

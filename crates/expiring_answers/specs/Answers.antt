@@ -2,12 +2,12 @@
 use mathlib.Core.Bool.{Bool, true, false}
 use Rattle.time.specs.declared.tick.Tick.{Tick}
 use Rattle.time.specs.Deadline.{isExpiredAt, remainingAt}
-use Rattle.fast_lru.specs.declared.answers.Found.{Found}
-use Rattle.fast_lru.specs.declared.answers.Found.the-variants as found
-use Rattle.fast_lru.specs.declared.answers.Told.{Told}
-use Rattle.fast_lru.specs.declared.answers.Told.the-variants as told
-use Rattle.fast_lru.specs.declared.answers.Oldest.{Oldest}
-use Rattle.fast_lru.specs.declared.answers.Oldest.the-variants as oldest
+use Rattle.fast_lru_model.specs.declared.answers.Found.{Found}
+use Rattle.fast_lru_model.specs.declared.answers.Found.the-variants as found
+use Rattle.fast_lru_model.specs.declared.answers.Told.{Told}
+use Rattle.fast_lru_model.specs.declared.answers.Told.the-variants as told
+use Rattle.fast_lru_model.specs.declared.answers.Oldest.{Oldest}
+use Rattle.fast_lru_model.specs.declared.answers.Oldest.the-variants as oldest
 use Rattle.expiration_index.specs.declared.answers.Deadline.{Deadline}
 use Rattle.expiration_index.specs.declared.answers.Deadline.the-variants as deadline
 use Rattle.expiration_index.specs.declared.answers.Due.{Due}

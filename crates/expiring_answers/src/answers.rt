@@ -4,10 +4,10 @@ ghost use Rattle.expiring_model.specs.Model.{rankIn};
 ghost use Rattle.expiring_answers.specs.Answers.{ofFound, ofTold, ofOldest, ofDue};
 use expiration_index::Due;
 use expiring_model::Answer;
-use fast_lru::Found;
-use fast_lru::Oldest;
-use fast_lru::Rank;
-use fast_lru::Told;
+use fast_lru_model::Found;
+use fast_lru_model::Oldest;
+use fast_lru_model::Rank;
+use fast_lru_model::Told;
 
 pub fn of_found(found: Found) -> Answer
     ensures { λ r. ⌜ r ≡ ofFound found ⌝ }

@@ -6,8 +6,8 @@ use Rattle.time.specs.Deadline.{deadlineFrom, isExpiredAt, remainingAt}
 use Rattle.binary_heap.specs.Order.{le, insert, sort}
 use Rattle.linked_hash_map.specs.Model as held
 use Rattle.lazy_heap_model.specs.Model.{live, staleBefore, fromLive, rebuilt, numbered, renumbered, opened, beforePush, pushed, maybeRebuilt, updated, updateDiscards, removed, peeked, cleared}
-use Rattle.fast_lru.specs.Model.{toFront, victim, evicted, withRoom, inserted, last, popped, rankFrom, rankOf}
-use Rattle.fast_lru.specs.Model as list
+use Rattle.fast_lru_model.specs.Model.{toFront, victim, evicted, withRoom, inserted, last, popped, rankFrom, rankOf}
+use Rattle.fast_lru_model.specs.Model as list
 use Rattle.expiration_index.specs.Model.{set, isFull, next, expiredCount, unexpired}
 use Rattle.expiration_index.specs.Model as pairs
 use Rattle.expiring_model.specs.Model.{fresh, isExpired, changeOf, pairsAfter, replacedBy, removedBy, withoutExpired, storedAfter, expiredBy, valueUnlessExpired, answered, badNanos, refusalOf, accepted, answerOf, bookAfter}

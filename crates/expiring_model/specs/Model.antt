@@ -17,10 +17,10 @@ use Rattle.time.specs.declared.refusal.Outcome.the-variants as outcome
 use Rattle.time.specs.declared.refusal.Refusal.the-variants.{InvalidNanos, KeyLimitReached}
 use Rattle.time.specs.Duration.{isZero, isDuration, millisOf, ticksOf}
 use Rattle.time.specs.Deadline.{deadlineFrom, isExpiredAt, remainingAt}
-use Rattle.fast_lru.specs.declared.answers.Rank.{Rank}
-use Rattle.fast_lru.specs.declared.answers.Rank.the-variants as rank
-use Rattle.fast_lru.specs.Model.{Item, Items, toFront, inserted, last, popped, rankOf}
-use Rattle.fast_lru.specs.Model as list
+use Rattle.fast_lru_model.specs.declared.answers.Rank.{Rank}
+use Rattle.fast_lru_model.specs.declared.answers.Rank.the-variants as rank
+use Rattle.fast_lru_model.specs.Model.{Item, Items, toFront, inserted, last, popped, rankOf}
+use Rattle.fast_lru_model.specs.Model as list
 use Rattle.expiration_index.specs.Model.{Pair, Pairs, next, isFull, expiredCount, unexpired}
 use Rattle.expiration_index.specs.Model as pairs
 use Rattle.expiring_model.specs.declared.answers.Answer.{Answer}

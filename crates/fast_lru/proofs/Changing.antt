@@ -20,16 +20,16 @@ use Rattle.linked_hash_map.specs.Map.{IsMap}
 use Rattle.linked_hash_map.specs.Calls as calls
 use Rattle.linked_hash_map.proofs.Laws as laws
 use Rattle.fast_lru.specs.declared.lru.FastLru.{FastLru}
-use Rattle.fast_lru.specs.declared.answers.Found.{Found}
-use Rattle.fast_lru.specs.declared.answers.Found.the-variants as found
-use Rattle.fast_lru.specs.declared.answers.Oldest.{Oldest}
-use Rattle.fast_lru.specs.declared.answers.Oldest.the-variants as oldest
-use Rattle.fast_lru.specs.declared.answers.Told.{Told}
-use Rattle.fast_lru.specs.declared.answers.Told.the-variants as told
+use Rattle.fast_lru_model.specs.declared.answers.Found.{Found}
+use Rattle.fast_lru_model.specs.declared.answers.Found.the-variants as found
+use Rattle.fast_lru_model.specs.declared.answers.Oldest.{Oldest}
+use Rattle.fast_lru_model.specs.declared.answers.Oldest.the-variants as oldest
+use Rattle.fast_lru_model.specs.declared.answers.Told.{Told}
+use Rattle.fast_lru_model.specs.declared.answers.Told.the-variants as told
 use Rattle.fast_lru.specs.declared.answers.Got.{Got}
 use Rattle.fast_lru.specs.declared.answers.Popped.{Popped}
 use Rattle.fast_lru.specs.Refusals.{blank, admitted}
-use Rattle.fast_lru.specs.Model.{Item, Items, lookup, valueIn, valueOf, toFront, tell, last, oldestOf, popped}
+use Rattle.fast_lru_model.specs.Model.{Item, Items, lookup, valueIn, valueOf, toFront, tell, last, oldestOf, popped}
 use Rattle.fast_lru.specs.Lru.{itemOf, items, modelOf}
 use Rattle.fast_lru.specs.Steps.{nth, taking, isAt, lessItem, ValueAt, Picking, Taking, Placing}
 use Rattle.fast_lru.specs.Calls.{Opening, Clearing, Getting, Inserting, Removing, Popping, Touching}

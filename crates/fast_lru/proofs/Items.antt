@@ -9,7 +9,7 @@ use lib.ListN.{length, length-map}
 use Rattle.linked_hash_map.specs.declared.map.Taken.{Taken}
 use Rattle.linked_hash_map.specs.declared.map.Taken.the-variants as taken
 use Rattle.linked_hash_map.specs.Model as held
-use Rattle.fast_lru.specs.Model.{Items, lookup, has, without, toFront, Distinct}
+use Rattle.fast_lru_model.specs.Model.{Items, lookup, has, without, toFront, Distinct}
 use Rattle.fast_lru.specs.Lru.{itemOf, items}
 use Rattle.fast_lru.specs.Steps.{nth, taking}
 

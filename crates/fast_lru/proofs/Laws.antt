@@ -8,7 +8,7 @@ use lib.Seq.{ext-getD, getD-drop}
 use Rattle.linked_hash_map.proofs.Laws as laws
 use Rattle.fast_lru.specs.declared.lru.FastLru.{FastLru}
 use Rattle.fast_lru.specs.Refusals.{wordsFor}
-use Rattle.fast_lru.specs.Model.{Distinct}
+use Rattle.fast_lru_model.specs.Model.{Distinct}
 use Rattle.fast_lru.specs.Lru.{IsList, items, modelOf, Kept}
 use Rattle.fast_lru.proofs.Slots as slots
 

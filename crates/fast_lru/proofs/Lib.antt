@@ -7,4 +7,3 @@ pub mod Placing
 pub mod Reading
 pub mod Changing
 pub mod Laws
-pub mod Samples

@@ -9,9 +9,9 @@ use native.Mathlib.Omega.{arith}
 use lib.Dec.{eqb}
 use lib.ListN.{length}
 use borrow.Author.Tests.{eq-eqb, ne-eqb, eqb-true, eqb-false, lt-ltb, le-ltb}
-use Rattle.fast_lru.specs.declared.answers.Found.the-variants as found
-use Rattle.fast_lru.specs.declared.answers.Rank.the-variants as rank
-use Rattle.fast_lru.specs.Model.{Item, Items, lookup, has, without, last, less, valueOf, toFront, victim, evicted, withRoom, inserted, rankFrom, Distinct}
+use Rattle.fast_lru_model.specs.declared.answers.Found.the-variants as found
+use Rattle.fast_lru_model.specs.declared.answers.Rank.the-variants as rank
+use Rattle.fast_lru_model.specs.Model.{Item, Items, lookup, has, without, last, less, valueOf, toFront, victim, evicted, withRoom, inserted, rankFrom, Distinct}
 use Rattle.fast_lru.specs.Steps.{nth}
 
 -- ---- places

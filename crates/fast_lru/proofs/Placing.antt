@@ -22,10 +22,10 @@ use Rattle.linked_hash_map.proofs.Laws as laws
 use Rattle.linked_hash_map.proofs.Putting as putting
 use Rattle.linked_hash_map.proofs.Recycling.{recycled-new}
 use Rattle.fast_lru.specs.declared.lru.FastLru.{FastLru}
-use Rattle.fast_lru.specs.declared.answers.Found.the-variants as found
-use Rattle.fast_lru.specs.declared.answers.Oldest.{Oldest}
-use Rattle.fast_lru.specs.declared.answers.Oldest.the-variants as oldest
-use Rattle.fast_lru.specs.Model.{Item, Items, has, without, less, valueIn, itemIn, valueOf, victim, evicted, inserted}
+use Rattle.fast_lru_model.specs.declared.answers.Found.the-variants as found
+use Rattle.fast_lru_model.specs.declared.answers.Oldest.{Oldest}
+use Rattle.fast_lru_model.specs.declared.answers.Oldest.the-variants as oldest
+use Rattle.fast_lru_model.specs.Model.{Item, Items, has, without, less, valueIn, itemIn, valueOf, victim, evicted, inserted}
 use Rattle.fast_lru.specs.Lru.{itemOf, items, modelOf}
 use Rattle.fast_lru.specs.Steps.{taking, Choosing, PlacingFull, Placing}
 use Rattle.fast_lru.proofs.Items.{length-items, lookup-items, has-items, without-items}

@@ -21,17 +21,17 @@ use Rattle.linked_hash_map.proofs.Putting.{model-length as map-length}
 use Rattle.linked_hash_map.specs.Calls as calls
 use Rattle.linked_hash_map.proofs.Laws as laws
 use Rattle.fast_lru.specs.declared.lru.FastLru.{FastLru}
-use Rattle.fast_lru.specs.declared.answers.Found.{Found}
-use Rattle.fast_lru.specs.declared.answers.Found.the-variants as found
-use Rattle.fast_lru.specs.declared.answers.Oldest.{Oldest}
-use Rattle.fast_lru.specs.declared.answers.Oldest.the-variants as oldest
-use Rattle.fast_lru.specs.declared.answers.Rank.{Rank}
-use Rattle.fast_lru.specs.declared.answers.Rank.the-variants as rank
-use Rattle.fast_lru.specs.declared.answers.Told.{Told}
-use Rattle.fast_lru.specs.declared.answers.Told.the-variants as told
-use Rattle.fast_lru.specs.declared.answers.Count.the-variants as count
+use Rattle.fast_lru_model.specs.declared.answers.Found.{Found}
+use Rattle.fast_lru_model.specs.declared.answers.Found.the-variants as found
+use Rattle.fast_lru_model.specs.declared.answers.Oldest.{Oldest}
+use Rattle.fast_lru_model.specs.declared.answers.Oldest.the-variants as oldest
+use Rattle.fast_lru_model.specs.declared.answers.Rank.{Rank}
+use Rattle.fast_lru_model.specs.declared.answers.Rank.the-variants as rank
+use Rattle.fast_lru_model.specs.declared.answers.Told.{Told}
+use Rattle.fast_lru_model.specs.declared.answers.Told.the-variants as told
+use Rattle.fast_lru_model.specs.declared.answers.Count.the-variants as count
 use Rattle.fast_lru.specs.Refusals.{admitted}
-use Rattle.fast_lru.specs.Model.{Item, has, tell, rankOf}
+use Rattle.fast_lru_model.specs.Model.{Item, has, tell, rankOf}
 use Rattle.fast_lru.specs.Lru.{itemOf, modelOf}
 use Rattle.fast_lru.specs.Steps.{nth, isAt, ValueAt, Picking, RankBetween, RankFrom, RankOf}
 use Rattle.fast_lru.specs.Calls.{Length, Emptiness, Capacity, Containing, Peeking, PeekingOldest, Ranking, Checking}

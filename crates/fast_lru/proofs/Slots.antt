@@ -18,10 +18,10 @@ use Rattle.linked_hash_map.specs.Calls.{Reading, Ending}
 use Rattle.linked_hash_map.proofs.Laws as laws
 use Rattle.linked_hash_map.proofs.Putting as putting
 use Rattle.fast_lru.specs.declared.lru.FastLru.{FastLru}
-use Rattle.fast_lru.specs.declared.answers.Found.the-variants as found
-use Rattle.fast_lru.specs.declared.answers.Oldest.{Oldest}
-use Rattle.fast_lru.specs.declared.answers.Oldest.the-variants as oldest
-use Rattle.fast_lru.specs.Model.{has, valueIn, itemIn, valueOf, victim, oldestOf, Distinct}
+use Rattle.fast_lru_model.specs.declared.answers.Found.the-variants as found
+use Rattle.fast_lru_model.specs.declared.answers.Oldest.{Oldest}
+use Rattle.fast_lru_model.specs.declared.answers.Oldest.the-variants as oldest
+use Rattle.fast_lru_model.specs.Model.{has, valueIn, itemIn, valueOf, victim, oldestOf, Distinct}
 use Rattle.fast_lru.specs.Lru.{modelOf}
 use Rattle.fast_lru.specs.Steps.{nth, taking, isAt, ValueAt, ItemAt, Picking, Choosing}
 use Rattle.fast_lru.proofs.Items.{length-items, lookup-items, has-items, nth-items, distinct-items}

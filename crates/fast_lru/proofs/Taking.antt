@@ -8,9 +8,9 @@ use Rattle.linked_hash_map.specs.Model as held
 use Rattle.linked_hash_map.specs.Map as map
 use Rattle.linked_hash_map.specs.Calls as calls
 use Rattle.fast_lru.specs.declared.lru.FastLru.{FastLru}
-use Rattle.fast_lru.specs.declared.answers.Oldest.{Oldest}
-use Rattle.fast_lru.specs.declared.answers.Oldest.the-variants as oldest
-use Rattle.fast_lru.specs.Model.{Item, Items, without, less, itemIn}
+use Rattle.fast_lru_model.specs.declared.answers.Oldest.{Oldest}
+use Rattle.fast_lru_model.specs.declared.answers.Oldest.the-variants as oldest
+use Rattle.fast_lru_model.specs.Model.{Item, Items, without, less, itemIn}
 use Rattle.fast_lru.specs.Lru.{items, modelOf}
 use Rattle.fast_lru.specs.Steps.{lessItem, Taking}
 use Rattle.fast_lru.proofs.Items.{without-items}

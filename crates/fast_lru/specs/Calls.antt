@@ -10,22 +10,22 @@ use Rattle.time.specs.declared.refusal.Refusal.{Refusal}
 use Rattle.time.specs.declared.refusal.Outcome.the-variants.{Done, Refused}
 use Rattle.limits.specs.Limits.{listLimits}
 use Rattle.fast_lru.specs.declared.lru.FastLru.{FastLru}
-use Rattle.fast_lru.specs.declared.answers.Found.{Found}
-use Rattle.fast_lru.specs.declared.answers.Found.the-variants as found
-use Rattle.fast_lru.specs.declared.answers.Oldest.{Oldest}
-use Rattle.fast_lru.specs.declared.answers.Oldest.the-variants as oldest
-use Rattle.fast_lru.specs.declared.answers.Rank.the-variants as rank
-use Rattle.fast_lru.specs.declared.answers.Told.{Told}
-use Rattle.fast_lru.specs.declared.answers.Told.the-variants as told
-use Rattle.fast_lru.specs.declared.answers.Count.{Count}
-use Rattle.fast_lru.specs.declared.answers.Count.the-variants as count
+use Rattle.fast_lru_model.specs.declared.answers.Found.{Found}
+use Rattle.fast_lru_model.specs.declared.answers.Found.the-variants as found
+use Rattle.fast_lru_model.specs.declared.answers.Oldest.{Oldest}
+use Rattle.fast_lru_model.specs.declared.answers.Oldest.the-variants as oldest
+use Rattle.fast_lru_model.specs.declared.answers.Rank.the-variants as rank
+use Rattle.fast_lru_model.specs.declared.answers.Told.{Told}
+use Rattle.fast_lru_model.specs.declared.answers.Told.the-variants as told
+use Rattle.fast_lru_model.specs.declared.answers.Count.{Count}
+use Rattle.fast_lru_model.specs.declared.answers.Count.the-variants as count
 use Rattle.fast_lru.specs.declared.answers.Opened.{Opened}
 use Rattle.fast_lru.specs.declared.answers.Got.{Got}
 use Rattle.fast_lru.specs.declared.answers.Popped.{Popped}
 use Rattle.fast_lru.specs.declared.answers.Touched.{Touched}
 use Rattle.fast_lru.specs.declared.answers.Ranked.{Ranked}
 use Rattle.fast_lru.specs.Refusals.{blank, admitted}
-use Rattle.fast_lru.specs.Model.{Item, has, without, tell, valueOf, toFront, inserted, oldestOf, popped, rankOf}
+use Rattle.fast_lru_model.specs.Model.{Item, has, without, tell, valueOf, toFront, inserted, oldestOf, popped, rankOf}
 use Rattle.fast_lru.specs.Lru.{IsList, modelOf, Kept}
 
 -- `new`: the empty list, whatever the words held

@@ -1,6 +1,4 @@
-pub mod Model
 pub mod Refusals
 pub mod Lru
 pub mod Calls
 pub mod Steps
-pub mod Samples

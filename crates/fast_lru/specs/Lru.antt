@@ -8,7 +8,7 @@ use Rattle.linked_hash_map.specs.Model.{Model}
 use Rattle.linked_hash_map.specs.Map as held
 use Rattle.fast_lru.specs.declared.lru.FastLru.{FastLru}
 use Rattle.fast_lru.specs.Refusals.{wordsFor}
-use Rattle.fast_lru.specs.Model.{Item, Items}
+use Rattle.fast_lru_model.specs.Model.{Item, Items}
 
 -- the words and numbers form a list: a map, in enough words
 pub record IsList (ws : List ℕ) (l : FastLru) : Type 0 where

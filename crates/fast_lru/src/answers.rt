@@ -1,38 +1,10 @@
 // What the calls answer. A call that changes the list, or is to be counted, hands the list's numbers back beside it.
 use crate::lru::FastLru;
+use fast_lru_model::Found;
+use fast_lru_model::Oldest;
+use fast_lru_model::Rank;
+use fast_lru_model::Told;
 use time::Outcome;
-use time::Refusal;
-
-pub enum Found {
-    Value(u64),
-    Nothing,
-    Refused(Refusal),
-}
-
-pub enum Oldest {
-    // Its key and its value.
-    Item(u64, u64),
-    Nothing,
-    Refused(Refusal),
-}
-
-pub enum Rank {
-    // 0 is the most recent.
-    At(usize),
-    Nothing,
-    Refused(Refusal),
-}
-
-pub enum Told {
-    Yes,
-    No,
-    Refused(Refusal),
-}
-
-pub enum Count {
-    Number(usize),
-    Refused(Refusal),
-}
 
 // `new` and `clear`.
 pub struct Opened {

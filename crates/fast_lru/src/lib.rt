@@ -16,14 +16,9 @@
 mod answers;
 mod lru;
 
-pub use answers::Count;
-pub use answers::Found;
 pub use answers::Got;
-pub use answers::Oldest;
 pub use answers::Opened;
 pub use answers::Popped;
-pub use answers::Rank;
 pub use answers::Ranked;
-pub use answers::Told;
 pub use answers::Touched;
 pub use lru::FastLru;

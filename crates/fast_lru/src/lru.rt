@@ -1,19 +1,19 @@
 // The recency list's calls. Each asks first whether it is refused, and then leaves the work to the map.
 ghost use mathlib.Core.Path.{_≡_};
 ghost use Rattle.fast_lru.specs.Refusals.{outOfRange, admitted};
-ghost use Rattle.fast_lru.specs.Model.{tell};
+ghost use Rattle.fast_lru_model.specs.Model.{tell};
 ghost use Rattle.fast_lru.specs.Calls.{Opening, Clearing, Length, Emptiness, Capacity, Containing, Getting, Peeking, Inserting, Removing, Popping, PeekingOldest, Touching, Ranking, Checking};
 ghost use Rattle.fast_lru.specs.Steps.{isAt, ValueAt, ItemAt, Picking, Choosing, Taking, PlacingFull, Placing, RankBetween, RankFrom, RankOf};
-use crate::answers::Count;
-use crate::answers::Found;
 use crate::answers::Got;
-use crate::answers::Oldest;
 use crate::answers::Opened;
 use crate::answers::Popped;
-use crate::answers::Rank;
 use crate::answers::Ranked;
-use crate::answers::Told;
 use crate::answers::Touched;
+use fast_lru_model::Count;
+use fast_lru_model::Found;
+use fast_lru_model::Oldest;
+use fast_lru_model::Rank;
+use fast_lru_model::Told;
 use linked_hash_map::LinkedHashMap;
 use linked_hash_map::Place;
 use linked_hash_map::Record;

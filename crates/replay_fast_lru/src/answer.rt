@@ -1,11 +1,11 @@
 // The answers of the list's calls, in words.
 ghost use mathlib.Core.Path.{_≡_};
 ghost use Rattle.replay_fast_lru.specs.Answers.{ofOutcome, ofFound, ofOldest, ofRank, ofTold, ofCount};
-use fast_lru::Count;
-use fast_lru::Found;
-use fast_lru::Oldest;
-use fast_lru::Rank;
-use fast_lru::Told;
+use fast_lru_model::Count;
+use fast_lru_model::Found;
+use fast_lru_model::Oldest;
+use fast_lru_model::Rank;
+use fast_lru_model::Told;
 use replay::Answer;
 use time::Outcome;
 

@@ -6,14 +6,14 @@ use mathlib.Core.Option.{Option, none, some}
 use Prim.Native.Nat.{ℕ, _+_}
 use lib.Dec.{eqb, ltb}
 use lib.ListN.{length}
-use Rattle.fast_lru.specs.declared.answers.Found.{Found}
-use Rattle.fast_lru.specs.declared.answers.Found.the-variants as found
-use Rattle.fast_lru.specs.declared.answers.Oldest.{Oldest}
-use Rattle.fast_lru.specs.declared.answers.Oldest.the-variants as oldest
-use Rattle.fast_lru.specs.declared.answers.Rank.{Rank}
-use Rattle.fast_lru.specs.declared.answers.Rank.the-variants as rank
-use Rattle.fast_lru.specs.declared.answers.Told.{Told}
-use Rattle.fast_lru.specs.declared.answers.Told.the-variants as told
+use Rattle.fast_lru_model.specs.declared.answers.Found.{Found}
+use Rattle.fast_lru_model.specs.declared.answers.Found.the-variants as found
+use Rattle.fast_lru_model.specs.declared.answers.Oldest.{Oldest}
+use Rattle.fast_lru_model.specs.declared.answers.Oldest.the-variants as oldest
+use Rattle.fast_lru_model.specs.declared.answers.Rank.{Rank}
+use Rattle.fast_lru_model.specs.declared.answers.Rank.the-variants as rank
+use Rattle.fast_lru_model.specs.declared.answers.Told.{Told}
+use Rattle.fast_lru_model.specs.declared.answers.Told.the-variants as told
 
 pub record Item : Type 0 where
   pub key : ℕ

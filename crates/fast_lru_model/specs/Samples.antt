@@ -3,15 +3,15 @@ use mathlib.Core.List.{List, [], _∷_}
 use Prim.Native.Nat.{ℕ}
 use lib.Dec.{eqb}
 use lib.ListN.{length}
-use Rattle.fast_lru.specs.declared.answers.Found.{Found}
-use Rattle.fast_lru.specs.declared.answers.Found.the-variants as found
-use Rattle.fast_lru.specs.declared.answers.Oldest.{Oldest}
-use Rattle.fast_lru.specs.declared.answers.Oldest.the-variants as oldest
-use Rattle.fast_lru.specs.declared.answers.Rank.{Rank}
-use Rattle.fast_lru.specs.declared.answers.Rank.the-variants as rank
-use Rattle.fast_lru.specs.declared.answers.Told.{Told}
-use Rattle.fast_lru.specs.declared.answers.Told.the-variants as told
-use Rattle.fast_lru.specs.Model.{Item, Items, has, without, tell, valueOf, toFront, inserted, oldestOf, popped, rankOf}
+use Rattle.fast_lru_model.specs.declared.answers.Found.{Found}
+use Rattle.fast_lru_model.specs.declared.answers.Found.the-variants as found
+use Rattle.fast_lru_model.specs.declared.answers.Oldest.{Oldest}
+use Rattle.fast_lru_model.specs.declared.answers.Oldest.the-variants as oldest
+use Rattle.fast_lru_model.specs.declared.answers.Rank.{Rank}
+use Rattle.fast_lru_model.specs.declared.answers.Rank.the-variants as rank
+use Rattle.fast_lru_model.specs.declared.answers.Told.{Told}
+use Rattle.fast_lru_model.specs.declared.answers.Told.the-variants as told
+use Rattle.fast_lru_model.specs.Model.{Item, Items, has, without, tell, valueOf, toFront, inserted, oldestOf, popped, rankOf}
 
 pub data Call : Type 0 where
   len : Call
