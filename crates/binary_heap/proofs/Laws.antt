@@ -1,17 +1,15 @@
 -- What the layers above cite, with the words out of sight.
 use mathlib.Core.Path.{_≡_, refl, ap, _∙_}
-use mathlib.Core.Bool.{Bool, true, false}
 use mathlib.Core.List.{List, [], _∷_, List·Memᴰ}
 use Prim.Native.Nat.{ℕ, _*_, _<_, _≤_}
 use native.Mathlib.Omega.{arith}
 use lib.ListN.{length, getD}
 use Rattle.binary_heap.specs.declared.entries.Entry.{Entry}
-use Rattle.binary_heap.specs.declared.heap.Popped.{Popped}
 use Rattle.binary_heap.specs.Order.{sort, Sorted, count, atMost}
 use Rattle.binary_heap.specs.Entries.{entryAt, entriesOf}
-use Rattle.binary_heap.specs.Heap.{fit, parent, Ordered, IsHeap, modelOf}
+use Rattle.binary_heap.specs.Heap.{parent, Ordered, IsHeap, modelOf}
 use Rattle.binary_heap.specs.Least.{Least}
-use Rattle.binary_heap.specs.Calls.{Popping, Counting}
+use Rattle.binary_heap.specs.Calls.{Counting}
 use Rattle.binary_heap.proofs.Order.{le-at}
 use Rattle.binary_heap.proofs.Words.{entry-kept}
 use Rattle.binary_heap.proofs.Places.{entries-length, entries-same, count-place, place-count}
@@ -81,14 +79,6 @@ module _ (ws ws′ : List ℕ) (n : ℕ) (same : (w : ℕ) → w < 3 * n → get
   pub model-frame : modelOf ws′ n ≡ modelOf ws n
   unfolding modelOf
   model-frame = ap sort (entries-same ws ws′ n entry-frame)
-
--- no pop lengthens the heap, whatever the words hold
-pub pop-length : {ws ws′ : List ℕ} {n : ℕ} {r : Popped} → Popping ws n ws′ r → r .len ≤ n
-pop-length {ws} {ws′} {n} {r} p = go (fit n (length ws)) refl
-  where
-    go : (b : Bool) → fit n (length ws) ≡ b → r .len ≤ n
-    go true f = omega (arith, p .shorter f)
-    go false f = omega (arith, ap (λ (x : Popped). x .len) (p .refused f .0))
 
 -- a heap is within the limits, so that its count is told
 pub heap-counted : {ws : List ℕ} {n s r : ℕ} → Counting ws n s r → IsHeap ws n → r ≡ atMost s (modelOf ws n)

@@ -20,7 +20,6 @@ use Rattle.fast_lru_model.specs.Model as list
 use Rattle.fast_lru.specs.Calls as lru
 use Rattle.fast_lru.specs.Lru as lists
 use Rattle.expiration_index.specs.declared.answers.Deadline.{Deadline}
-use Rattle.expiration_index.specs.declared.answers.Deadline.the-variants as deadline
 use Rattle.expiration_index.specs.declared.answers.Count as counts
 use Rattle.expiration_index.specs.declared.answers.Count.the-variants as expired
 use Rattle.expiration_index.specs.Model.{Pair, deadlineIn, deadlineOf, expiredCount}

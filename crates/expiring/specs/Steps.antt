@@ -37,7 +37,7 @@ use Rattle.expiring_model.specs.declared.lifetimes.DefaultTtl.{DefaultTtl}
 use Rattle.expiring_model.specs.declared.lifetimes.DefaultTtl.the-variants as default
 use Rattle.expiring_model.specs.declared.lifetimes.DefaultDuration.{DefaultDuration}
 use Rattle.expiring_model.specs.declared.lifetimes.DefaultDuration.the-variants as asked
-use Rattle.expiring_model.specs.Model.{Change, keep, set, drop, dropExpired, dropAll, look, fresh, pairsAfter, hasCome, livesAt, valueIn}
+use Rattle.expiring_model.specs.Model.{Change, keep, set, drop, dropExpired, dropAll, look, fresh, pairsAfter, hasCome, valueIn}
 use Rattle.expiring_model.specs.Discards.{discards, heapAfter}
 use Rattle.expiring.specs.Book.{capacityOf, limitOf, rest, IsBook, heapOf, modelOf, Kept}
 

@@ -37,7 +37,6 @@ use time::Outcome;
 use time::Refusal;
 use time::Tick;
 use time::Ticked;
-use time::TtlTicks;
 
 // The book's numbers; all else is in the words. Those of a refused opening are all 0.
 pub struct Expiring {

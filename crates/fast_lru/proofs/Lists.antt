@@ -8,10 +8,10 @@ use native.Mathlib.Nat.{not-suc-le-zero, le-of-suc-le-suc}
 use native.Mathlib.Omega.{arith}
 use lib.Dec.{eqb}
 use lib.ListN.{length}
-use borrow.Author.Tests.{eq-eqb, ne-eqb, eqb-true, eqb-false, lt-ltb, le-ltb}
+use borrow.Author.Tests.{eq-eqb, ne-eqb, eqb-true, lt-ltb, le-ltb}
 use Rattle.fast_lru_model.specs.declared.answers.Found.the-variants as found
 use Rattle.fast_lru_model.specs.declared.answers.Rank.the-variants as rank
-use Rattle.fast_lru_model.specs.Model.{Item, Items, lookup, has, without, last, less, valueOf, toFront, victim, evicted, withRoom, inserted, rankFrom, Distinct}
+use Rattle.fast_lru_model.specs.Model.{Item, Items, lookup, has, without, last, less, valueOf, victim, evicted, withRoom, inserted, rankFrom, Distinct}
 use Rattle.fast_lru.specs.Steps.{nth}
 
 -- ---- places
@@ -76,16 +76,6 @@ keyed k (x ∷ l) = go (eqb (x .key) k) refl (keyed k l)
     go true e rest = stored x (eqb-true _ _ e) (rw e) (rw e) (rw e)
     go false e (stored i q a b c) = stored i q (rw e a) (rw e b) (rw e c)
     go false e (missing a b c) = missing (rw e a) (rw e b) (rw e c)
-
--- lists that agree on a key's item agree on whether it is stored
-pub has-same : (k : ℕ) (l m : Items) → lookup k l ≡ lookup k m → has k l ≡ has k m
-has-same k l m e = go (keyed k l) (keyed k m)
-  where
-    go : Keyed k l → Keyed k m → has k l ≡ has k m
-    go (stored i q a v h) (stored j p b w g) = h ∙ sym g
-    go (missing a v h) (missing b w g) = h ∙ sym g
-    go (stored i q a v h) (missing b w g) = absurd (let z : _≡_ {A = ℕ} 0 1 = cc in omega arith)
-    go (missing a v h) (stored j p b w g) = absurd (let z : _≡_ {A = ℕ} 0 1 = cc in omega arith)
 
 -- ---- an item taken out
 module _ (k : ℕ) where
@@ -169,20 +159,6 @@ last-none [] e = refl
 last-none (x ∷ []) e = absurd (let z : _≡_ {A = ℕ} 0 1 = cc in omega arith)
 last-none (x ∷ (y ∷ l)) e = absurd (omega (arith, last-none (y ∷ l) e))
 
--- ---- an item moved
--- moving an item changes no lookup
-pub lookup-front : (k j : ℕ) (l : Items) → lookup k (toFront j l) ≡ lookup k l
-unfolding toFront lookup
-lookup-front k j l = go (keyed j l)
-  where
-    by : (i : Item) → i .key ≡ j → lookup j l ≡ some i → (b : Bool) → eqb (i .key) k ≡ b → cond b (some i) (lookup k (without j l)) ≡ lookup k l
-    by i q a true e = let same : j ≡ k = sym q ∙ eqb-true (i .key) k e in sym (ap (λ (x : ℕ). lookup x l) (sym same) ∙ a)
-    by i q a false e = lookup-without-other k j (λ same. eqb-false (i .key) k e (q ∙ same)) l
-
-    go : Keyed j l → lookup k (toFront j l) ≡ lookup k l
-    go (stored i q a v h) = rw a (by i q a (eqb (i .key) k) refl)
-    go (missing a v h) = rw a
-
 -- ---- an item pushed out
 pub victim-none : (l : Items) → victim l ≡ none → length l ≡ 0
 unfolding victim
@@ -218,8 +194,3 @@ module _ (c : ℕ) (i : Item) (l : Items) where
   pub inserted-full : 0 < c → has (i .key) l ≡ false → c ≤ length l → inserted c i l ≡ i ∷ without (i .key) (evicted l)
   unfolding inserted withRoom
   inserted-full z e h = rw (ne-eqb c 0 (λ q. omega arith), e, le-ltb (length l) c h)
-
-  -- and its key is stored then
-  pub lookup-inserted : 0 < c → lookup (i .key) (inserted c i l) ≡ some i
-  unfolding inserted lookup
-  lookup-inserted h = rw (ne-eqb c 0 (λ z. omega arith), eq-eqb (i .key) (i .key) refl)

@@ -4,9 +4,8 @@ use mathlib.Core.List.{List, []}
 use Prim.Native.Nat.{ℕ, _<_, _≤_}
 use native.Mathlib.Omega.{arith}
 use borrow.Author.Tests.{lt-ltb, le-ltb}
-use lib.Dec.{ltb}
 use lib.ListN.{length}
-use lib.Seq.{sets, length-sets}
+use lib.Seq.{length-sets}
 use Rattle.time.specs.declared.tick.Tick.{Tick}
 use Rattle.time.specs.declared.refusal.Outcome.the-variants.{Done, Refused}
 use Rattle.time.specs.declared.refusal.Refusal.{Refusal}
