@@ -1,4 +1,4 @@
--- What the layers' answers are to the book, where they refuse nothing.
+-- What the layers' answers are to the book. Of what it has admitted they refuse a deadline beyond the limit alone.
 use mathlib.Core.Bool.{Bool, true, false}
 use Rattle.time.specs.declared.tick.Tick.{Tick}
 use Rattle.time.specs.Deadline.{isExpiredAt, remainingAt}

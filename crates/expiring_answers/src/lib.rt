@@ -1,7 +1,7 @@
 // What the book makes of the answers of its layers, the list `fast_lru` and the index of deadlines `expiration_index`.
 //
-// No book's list or index refuses a call that the book has admitted. So a refusal of theirs is never met, and reads as if there
-// were nothing.
+// Of what the book has admitted, its layers refuse one thing: a deadline for a new key where as many are held as may be, which
+// `is_accepted` tells. No other refusal of theirs is ever met; it reads as if there were nothing.
 mod answers;
 mod deadlines;
 
