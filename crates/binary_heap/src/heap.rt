@@ -9,19 +9,19 @@ use crate::{entries, sifts};
 const MAX_ENTRIES: usize = 32769;
 
 // The least entry.
-#[derive(Drop)]
+#[derive(Clone, Copy)]
 pub enum Top {
     Entry(Entry),
     Nothing,
 }
 
-#[derive(Drop)]
+#[derive(Clone, Copy)]
 pub struct Pushed {
     pub len: usize,
     pub is_done: bool,
 }
 
-#[derive(Drop)]
+#[derive(Clone, Copy)]
 pub struct Popped {
     pub len: usize,
     pub answer: Top,

@@ -10,6 +10,8 @@
 //
 // There are at most 32,769 entries, 8 for each of 4,096 keys and one more, and no more than the words hold. Any words and
 // any length may be handed to any call. Where the words are no heap, no word past the entries changes.
+#![tactic(auto)]
+
 mod entries;
 mod heap;
 mod sifts;

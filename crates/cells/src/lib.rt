@@ -3,9 +3,11 @@
 //
 // With room for n records the cells stand in the 3 n + 48 words after the n + 2 nodes of five words, four cells to a
 // word. A cell is 0 if it was never used, i + 1 for record i, and anything else for a record that is gone.
+#![tactic(auto)]
+
 
 // Where the probe of a key ended.
-#[derive(Drop)]
+#[derive(Clone, Copy)]
 pub enum Probe {
     // At a cell, and the record that it holds has the key.
     At(usize, usize),

@@ -1,6 +1,6 @@
 // A line as far as it has been read: its text, the letter that names its question, and its numbers.
 
-#[derive(Drop)]
+#[derive(Clone, Copy)]
 pub struct Line {
     pub text: [u8; 128],
     pub length: usize,

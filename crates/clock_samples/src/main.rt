@@ -12,6 +12,8 @@
 // A question is named by its first letter alone. Its line is written back with ` = ` and the answer; a line that starts
 // with `#` is written back as it is. Nothing here is part of what is proved of the cache: it is how a person, and the
 // recorded answers of the Rust, reach the crate.
+#![tactic(auto)]
+
 mod lent;
 mod line;
 mod print;
@@ -20,7 +22,7 @@ use libc::STDIN_FILENO;
 use line::Line;
 use time::MockClock;
 
-#[derive(Drop)]
+#[derive(Clone, Copy)]
 struct Session {
     clock: MockClock,
     line: Line,
@@ -51,7 +53,7 @@ fn run(session: Session, bytes: &[u8]) -> Session {
     s
 }
 
-#[derive(Drop)]
+#[derive(Clone, Copy)]
 struct Block {
     session: Session,
     is_last: bool,

@@ -3,7 +3,7 @@ use crate::index::ExpirationIndex;
 use time::{Outcome, Refusal, Tick};
 
 // The deadline of a key.
-#[derive(Drop)]
+#[derive(Clone, Copy)]
 pub enum Deadline {
     At(Tick),
     Nothing,
@@ -11,33 +11,33 @@ pub enum Deadline {
 }
 
 // A key with its deadline.
-#[derive(Drop)]
+#[derive(Clone, Copy)]
 pub enum Due {
     Pair(u64, Tick),
     Nothing,
     Refused(Refusal),
 }
 
-#[derive(Drop)]
+#[derive(Clone, Copy)]
 pub enum Count {
     Number(usize),
     Refused(Refusal),
 }
 
-#[derive(Drop)]
+#[derive(Clone, Copy)]
 pub enum Told {
     Yes,
     No,
     Refused(Refusal),
 }
 
-#[derive(Drop)]
+#[derive(Clone, Copy)]
 pub struct Opened {
     pub index: ExpirationIndex,
     pub outcome: Outcome,
 }
 
-#[derive(Drop)]
+#[derive(Clone, Copy)]
 pub struct Cleared {
     pub index: ExpirationIndex,
     pub outcome: Outcome,
@@ -45,7 +45,7 @@ pub struct Cleared {
 }
 
 // `set_deadline` and `remove`.
-#[derive(Drop)]
+#[derive(Clone, Copy)]
 pub struct Changed {
     pub index: ExpirationIndex,
     pub answer: Deadline,
@@ -53,7 +53,7 @@ pub struct Changed {
 }
 
 // `next_deadline` and `pop_expired`.
-#[derive(Drop)]
+#[derive(Clone, Copy)]
 pub struct Looked {
     pub index: ExpirationIndex,
     pub answer: Due,

@@ -9,7 +9,7 @@ use lazy_heap_model::{Best, Score};
 use time::Tick;
 
 // The index's numbers; the deadlines are in the words. Those of a refused opening are all 0.
-#[derive(Drop)]
+#[derive(Clone, Copy)]
 pub struct ExpirationIndex {
     pub heap: LazyMinHeap,
 }

@@ -11,6 +11,8 @@
 //
 // An index for d keys, 1 to 4,096, takes 64 + 32 d words, and leaves those beyond alone. Any words and any numbers may be
 // handed to any call. A refusal changes nothing; on words and numbers that are no index, only they may change.
+#![tactic(auto)]
+
 mod answers;
 mod index;
 

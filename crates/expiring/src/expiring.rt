@@ -23,7 +23,7 @@ use linked_hash_map::LinkedHashMap;
 use time::{Duration, Outcome, Refusal, Tick, Ticked};
 
 // The book's numbers; all else is in the words. Those of a refused opening are all 0.
-#[derive(Drop)]
+#[derive(Clone, Copy)]
 pub struct Expiring {
     pub inner: FastLru,
     pub index: ExpirationIndex,
@@ -31,21 +31,21 @@ pub struct Expiring {
     pub expirations: u64,
 }
 
-#[derive(Drop)]
+#[derive(Clone, Copy)]
 pub struct Opened {
     pub book: Expiring,
     pub outcome: Outcome,
 }
 
 // A book after its deadlines were dropped, and how many entries of the heap were discarded.
-#[derive(Drop)]
+#[derive(Clone, Copy)]
 struct Undated {
     book: Expiring,
     discarded: usize,
 }
 
 // A book after a look at its next due, whether that was expired and taken out, and how many stale entries were discarded.
-#[derive(Drop)]
+#[derive(Clone, Copy)]
 struct Popped {
     book: Expiring,
     is_popped: bool,
@@ -59,7 +59,7 @@ fn saturating_sum(a: u64, b: u64) -> u64
 }
 
 // A default lifetime in ticks.
-#[derive(Drop)]
+#[derive(Clone, Copy)]
 enum Defaulted {
     To(DefaultTtl),
     Refused(Refusal),

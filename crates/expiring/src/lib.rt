@@ -12,6 +12,8 @@
 //
 // For a caller that keeps the numbers in words, `get`, `insert`, `insert_with_ttl`, `remove` and `set_ttl` are also functions that
 // change them where they stand, and answer `Said`; the methods are made of these.
+#![tactic(auto)]
+
 mod answers;
 mod expiring;
 mod numbers;

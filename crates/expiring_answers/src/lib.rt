@@ -2,6 +2,8 @@
 //
 // Of what the book has admitted, its layers refuse one thing: a deadline for a new key where as many are held as may be, which
 // `is_accepted` tells. No other refusal of theirs is ever met; it reads as if there were nothing.
+#![tactic(auto)]
+
 mod answers;
 mod deadlines;
 

@@ -1,7 +1,7 @@
 // What the calls answer.
 use time::{Refusal, Tick, TtlTicks};
 
-#[derive(Drop)]
+#[derive(Clone, Copy)]
 pub enum Answer {
     Nothing,
     Value(u64),

@@ -4,32 +4,32 @@ use fast_lru_model::{Found, Oldest, Rank, Told};
 use time::Outcome;
 
 // `new` and `clear`.
-#[derive(Drop)]
+#[derive(Clone, Copy)]
 pub struct Opened {
     pub lru: FastLru,
     pub answer: Outcome,
 }
 
 // `get`, `insert` and `remove`.
-#[derive(Drop)]
+#[derive(Clone, Copy)]
 pub struct Got {
     pub lru: FastLru,
     pub answer: Found,
 }
 
-#[derive(Drop)]
+#[derive(Clone, Copy)]
 pub struct Popped {
     pub lru: FastLru,
     pub answer: Oldest,
 }
 
-#[derive(Drop)]
+#[derive(Clone, Copy)]
 pub struct Touched {
     pub lru: FastLru,
     pub answer: Told,
 }
 
-#[derive(Drop)]
+#[derive(Clone, Copy)]
 pub struct Ranked {
     pub lru: FastLru,
     pub answer: Rank,

@@ -13,6 +13,8 @@
 // may change.
 //
 // The Rust beside it: docs/src/policy/fast_lru.rs.
+#![tactic(auto)]
+
 mod answers;
 mod lru;
 

@@ -11,7 +11,7 @@ use linked_hash_map::{LinkedHashMap, Place, Record, Slot};
 use time::{Outcome, Refusal};
 
 // The list's numbers; the items are in the words.
-#[derive(Drop)]
+#[derive(Clone, Copy)]
 pub struct FastLru {
     pub map: LinkedHashMap,
 }

@@ -1,14 +1,14 @@
 // What the list tells of its items.
 use time::Refusal;
 
-#[derive(Drop)]
+#[derive(Clone, Copy)]
 pub enum Found {
     Value(u64),
     Nothing,
     Refused(Refusal),
 }
 
-#[derive(Drop)]
+#[derive(Clone, Copy)]
 pub enum Oldest {
     // Its key and its value.
     Item(u64, u64),
@@ -16,7 +16,7 @@ pub enum Oldest {
     Refused(Refusal),
 }
 
-#[derive(Drop)]
+#[derive(Clone, Copy)]
 pub enum Rank {
     // 0 is the most recent.
     At(usize),
@@ -24,14 +24,14 @@ pub enum Rank {
     Refused(Refusal),
 }
 
-#[derive(Drop)]
+#[derive(Clone, Copy)]
 pub enum Told {
     Yes,
     No,
     Refused(Refusal),
 }
 
-#[derive(Drop)]
+#[derive(Clone, Copy)]
 pub enum Count {
     Number(usize),
     Refused(Refusal),

@@ -2,6 +2,8 @@
 //
 // `specs/Model` has what each call makes of them and answers; it knows nothing of words. `specs/Samples` has worked examples, the scope
 // document's among them, which `proofs/Samples` shows to follow from these definitions. The code here is the types of the answers.
+#![tactic(auto)]
+
 mod answers;
 
 pub use answers::{Count, Found, Oldest, Rank, Told};

@@ -6,7 +6,7 @@ ghost use Rattle.forms.specs.Reading.{ReadsOnly, book_in, book_with_ttl_in, call
 use text::Number;
 
 // What is asked of a book, with its numbers; a lifetime is seconds and nanoseconds.
-#[derive(Drop)]
+#[derive(Clone, Copy)]
 pub enum Call {
     Put(u64, u64),
     PutWithTtl(u64, u64, u64, u64),
@@ -22,7 +22,7 @@ pub enum Call {
     Clear,
 }
 
-#[derive(Drop)]
+#[derive(Clone, Copy)]
 pub enum Form {
     // The capacity, the limit of deadlines and the first sequence number.
     Book(u64, u64, u64),

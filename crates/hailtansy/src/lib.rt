@@ -5,6 +5,8 @@
 //
 // Each function says 1, or 0 where it did nothing: where there are fewer than twelve numbers, or fewer than four words for the
 // answer. On any others it ends and touches nothing else, whether or not they form a book.
+#![tactic(auto)]
+
 mod change;
 mod look;
 mod opening;

@@ -15,7 +15,7 @@ use linked_hash_map::{LinkedHashMap, Place, Record, Slot};
 use time::{Outcome, Refusal};
 
 // The heap's numbers; all else is in the words. Those of a refused opening are all 0.
-#[derive(Drop)]
+#[derive(Clone, Copy)]
 pub struct LazyMinHeap {
     pub scores: LinkedHashMap,
     pub entries: usize,
@@ -23,13 +23,13 @@ pub struct LazyMinHeap {
     pub factor: usize,
 }
 
-#[derive(Drop)]
+#[derive(Clone, Copy)]
 pub enum Number {
     Value(usize),
     Refused(Refusal),
 }
 
-#[derive(Drop)]
+#[derive(Clone, Copy)]
 pub enum Flag {
     Yes,
     No,
@@ -37,27 +37,27 @@ pub enum Flag {
 }
 
 // What a call hands back: the numbers, its answer, and how many entries it discarded.
-#[derive(Drop)]
+#[derive(Clone, Copy)]
 pub struct Updated {
     pub heap: LazyMinHeap,
     pub answer: Score,
     pub discarded: usize,
 }
 
-#[derive(Drop)]
+#[derive(Clone, Copy)]
 pub struct Bested {
     pub heap: LazyMinHeap,
     pub answer: Best,
     pub discarded: usize,
 }
 
-#[derive(Drop)]
+#[derive(Clone, Copy)]
 pub struct Opened {
     pub heap: LazyMinHeap,
     pub outcome: Outcome,
 }
 
-#[derive(Drop)]
+#[derive(Clone, Copy)]
 pub struct Stepped {
     pub heap: LazyMinHeap,
     pub outcome: Outcome,
@@ -65,14 +65,14 @@ pub struct Stepped {
 }
 
 // A heap after a step, and how many entries the step discarded.
-#[derive(Drop)]
+#[derive(Clone, Copy)]
 struct Step {
     heap: LazyMinHeap,
     discarded: usize,
 }
 
 // The numbers of the scores after one was stored, and the key's old one.
-#[derive(Drop)]
+#[derive(Clone, Copy)]
 struct Stored {
     len: usize,
     refill_in: usize,
@@ -80,7 +80,7 @@ struct Stored {
 }
 
 // A heap after a key was set, and the score that it held before.
-#[derive(Drop)]
+#[derive(Clone, Copy)]
 struct Held {
     heap: LazyMinHeap,
     answer: Score,

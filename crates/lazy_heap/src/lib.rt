@@ -10,6 +10,8 @@
 //
 // An update, and a pop of each entry, takes logarithmic time; the rest is constant but for `rebuild`, `renumber_seqs`,
 // `clear`, `check`, opening, and `count_at_most` where the first entry's score is not above the one given.
+#![tactic(auto)]
+
 mod heap;
 mod walks;
 

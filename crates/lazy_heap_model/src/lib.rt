@@ -2,6 +2,8 @@
 //
 // `specs/Model` has what each call makes of them and how many entries it discards; it knows nothing of words. `specs/Samples` has worked
 // examples, which `proofs/Samples` shows to follow from these definitions. The code here is the types that scores are told in.
+#![tactic(auto)]
+
 mod scores;
 
 pub use scores::{Best, Score};

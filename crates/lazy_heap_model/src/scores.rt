@@ -1,14 +1,14 @@
 // What the heap tells of scores.
 use time::Refusal;
 
-#[derive(Drop)]
+#[derive(Clone, Copy)]
 pub enum Score {
     Value(u64),
     Nothing,
     Refused(Refusal),
 }
 
-#[derive(Drop)]
+#[derive(Clone, Copy)]
 pub enum Best {
     Pair(u64, u64),
     Nothing,

@@ -8,6 +8,8 @@
 //   recency list     capacity 0..4,096                 8 capacity + 64
 //   heap and index   keys 1..4,096                     32 keys + 64
 //   book             capacity 0..4,096, keys 1..4,096  8 capacity + 32 keys + 128
+#![tactic(auto)]
+
 mod limits;
 
 pub use limits::{book, heap, heap_with_factor, list, map};

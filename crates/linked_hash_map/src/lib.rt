@@ -17,6 +17,8 @@
 // or to the cells, which it wipes, where they are more than a thirty-second of n.
 // Any words and any numbers may be handed to any call: a number is tested before it is an index, and every walk is
 // counted. Where the words are no map, only they and the numbers handed back may change.
+#![tactic(auto)]
+
 mod check;
 mod index;
 mod links;

@@ -9,7 +9,7 @@ use crate::{check, index, links};
 use cells::Probe;
 
 // The map's numbers; all else is in the words.
-#[derive(Drop)]
+#[derive(Clone, Copy)]
 pub struct LinkedHashMap {
     pub capacity: usize,
     pub len: usize,
@@ -17,7 +17,7 @@ pub struct LinkedHashMap {
     pub refill_in: usize,
 }
 
-#[derive(Drop)]
+#[derive(Clone, Copy)]
 pub struct Record {
     pub key: u64,
     pub first: u64,
@@ -25,7 +25,7 @@ pub struct Record {
 }
 
 // A record's place among the words, to read it or to walk on from it.
-#[derive(Drop)]
+#[derive(Clone, Copy)]
 pub enum Slot {
     At(usize),
     Nothing,
@@ -34,7 +34,7 @@ pub enum Slot {
 }
 
 // Where a key's record is, or would go.
-#[derive(Drop)]
+#[derive(Clone, Copy)]
 pub enum Place {
     // A cell, and the slot that it leads to.
     At(usize, usize),
@@ -45,7 +45,7 @@ pub enum Place {
     Refused,
 }
 
-#[derive(Drop)]
+#[derive(Clone, Copy)]
 pub enum Placed {
     Inserted,
     Replaced(Record),
@@ -54,26 +54,26 @@ pub enum Placed {
     Refused,
 }
 
-#[derive(Drop)]
+#[derive(Clone, Copy)]
 pub enum Taken {
     Record(Record),
     Nothing,
     Refused,
 }
 
-#[derive(Drop)]
+#[derive(Clone, Copy)]
 pub struct Opened {
     pub map: LinkedHashMap,
     pub is_open: bool,
 }
 
-#[derive(Drop)]
+#[derive(Clone, Copy)]
 pub struct Put {
     pub map: LinkedHashMap,
     pub answer: Placed,
 }
 
-#[derive(Drop)]
+#[derive(Clone, Copy)]
 pub struct Removed {
     pub map: LinkedHashMap,
     pub answer: Taken,

@@ -4,7 +4,7 @@ ghost use Rattle.replay.specs.Runs.{call_at, with_answer, room_in};
 
 use crate::answer::Answer;
 
-#[derive(Drop)]
+#[derive(Clone, Copy)]
 pub struct Call {
     pub operation: u64,
     pub first: u64,

@@ -16,6 +16,8 @@
 //   9     done                 0, 0, discarded
 //   10    refused              the refusal's number, or 0 where it has none, 0, discarded
 //   11    no such operation    0, 0, 0
+#![tactic(auto)]
+
 mod answer;
 mod call;
 

@@ -9,7 +9,7 @@ use replay::{Answer, Call};
 use time::Tick;
 
 // The index's numbers after a call, and the call's answer.
-#[derive(Drop)]
+#[derive(Clone, Copy)]
 pub struct Reply {
     pub index: ExpirationIndex,
     pub answer: Answer,

@@ -11,6 +11,8 @@
 //   6          deadline_of, key             other      none
 //
 // The numbers are those of the heap: capacity, len and refill_in of its map of scores, and then entries, seq, factor.
+#![tactic(auto)]
+
 mod answer;
 mod call;
 mod list;

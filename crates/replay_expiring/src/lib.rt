@@ -35,6 +35,8 @@
 // of none as 0. Operations 0 to 9, which may change the book, hand back its numbers but for capacity, limit and default lifetime,
 // which no call changes. The others look, and leave all numbers as they are. How an answer is written is public, for functions
 // of a single call.
+#![tactic(auto)]
+
 mod answer;
 mod book;
 mod change;

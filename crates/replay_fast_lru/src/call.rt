@@ -8,7 +8,7 @@ use fast_lru::{FastLru, Got, Opened, Popped, Ranked};
 use replay::{Answer, Call};
 
 // The list's numbers after a call, and the call's answer.
-#[derive(Drop)]
+#[derive(Clone, Copy)]
 pub struct Reply {
     pub lru: FastLru,
     pub answer: Answer,

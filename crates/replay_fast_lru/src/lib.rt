@@ -12,6 +12,8 @@
 //   7          peek, key            other      none
 //
 // The numbers are those of the list's map: capacity, len, refill_in.
+#![tactic(auto)]
+
 mod answer;
 mod call;
 mod list;

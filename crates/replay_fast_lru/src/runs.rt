@@ -8,7 +8,7 @@ use crate::answer;
 use fast_lru::FastLru;
 
 // The list's numbers after the calls before the i-th.
-#[derive(Drop)]
+#[derive(Clone, Copy)]
 pub struct Reached {
     pub lru: FastLru,
     pub i: usize,

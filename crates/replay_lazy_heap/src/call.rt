@@ -8,7 +8,7 @@ use lazy_heap::{Bested, LazyMinHeap, Opened, Stepped, Updated};
 use replay::{Answer, Call};
 
 // The heap's numbers after a call, and the call's answer.
-#[derive(Drop)]
+#[derive(Clone, Copy)]
 pub struct Reply {
     pub heap: LazyMinHeap,
     pub answer: Answer,

@@ -13,6 +13,8 @@
 //   8          renumber_seqs                other      none
 //
 // The numbers are those of the map of scores (capacity, len, refill_in), and then entries, seq, factor.
+#![tactic(auto)]
+
 mod answer;
 mod call;
 mod list;

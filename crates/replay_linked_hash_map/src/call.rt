@@ -9,7 +9,7 @@ use linked_hash_map::{LinkedHashMap, Opened, Put, Record, Removed};
 use replay::{Answer, Call};
 
 // The map's numbers after a call, and the call's answer.
-#[derive(Drop)]
+#[derive(Clone, Copy)]
 pub struct Reply {
     pub map: LinkedHashMap,
     pub answer: Answer,

@@ -11,6 +11,8 @@
 //   6          find, key                   other      none
 //
 // The numbers are capacity, len, refill_in.
+#![tactic(auto)]
+
 mod answer;
 mod call;
 mod list;

@@ -2,3 +2,5 @@
 // with no function: the code that joins nodes is `linked_hash_map`'s.
 //
 // Node i is the five words from 5 i on; its links are the last two, the previous node and the next one.
+#![tactic(auto)]
+

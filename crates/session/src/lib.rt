@@ -1,4 +1,6 @@
 // The session language: lines in, answers out. Document 01, "The session program".
+#![tactic(auto)]
+
 mod answer;
 mod ask;
 mod lines;

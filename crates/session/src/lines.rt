@@ -6,7 +6,7 @@ ghost use Rattle.session.specs.Lines.{FirstNewline, ReadsLine, Runs};
 use crate::step::Session;
 
 // A session after some lines, how many bytes they had with their newlines, and how many their answers.
-#[derive(Drop)]
+#[derive(Clone, Copy)]
 pub struct Ran {
     pub session: Session,
     pub read: usize,

@@ -13,7 +13,7 @@ use forms::Form;
 use time::{Duration, Outcome, Refusal, Tick};
 
 // A session before its first line, with its book, or after a refused first line.
-#[derive(Drop)]
+#[derive(Clone, Copy)]
 pub enum Session {
     Waiting,
     Open(Expiring),
@@ -21,7 +21,7 @@ pub enum Session {
 }
 
 // A session after a line, and how many bytes its answer has.
-#[derive(Drop)]
+#[derive(Clone, Copy)]
 pub struct Stepped {
     pub session: Session,
     pub written: usize,

@@ -6,6 +6,8 @@
 //     format   (ttl 0 0)      text   (ttl 2 500000000)      numbers   2, 500000000
 //
 // So a format and its numbers have one text; reading is the way back.
+#![tactic(auto)]
+
 mod number;
 mod reader;
 mod writer;

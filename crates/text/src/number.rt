@@ -3,7 +3,7 @@ ghost use Rattle.std.specs.Prelude.{◌≡◌, false, ◌<◌, ◌≤◌, length
 ghost use Rattle.text.specs.Reading.{ReadsNumber, ReadsOn, IsOver};
 
 // A number that stands in a line, and where it ends.
-#[derive(Drop)]
+#[derive(Clone, Copy)]
 pub struct Number {
     pub is_number: bool,
     pub value: u64,

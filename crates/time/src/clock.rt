@@ -6,13 +6,13 @@ use crate::duration::{Duration, NANOS_PER_SEC, TtlTicks};
 use crate::refusal::{Outcome, Refusal};
 use crate::tick::Tick;
 
-#[derive(Drop)]
+#[derive(Clone, Copy)]
 pub struct MockClock {
     pub tick: Tick,
 }
 
 // A clock after a step, and what the step answers.
-#[derive(Drop)]
+#[derive(Clone, Copy)]
 pub struct Advanced {
     pub clock: MockClock,
     pub outcome: Outcome,

@@ -11,17 +11,17 @@ const NANOS_PER_MILLI: u32 = 1_000_000;
 const MILLIS_PER_SEC: u64 = 1_000;
 
 // Any two numbers: those with 1,000,000,000 nanoseconds or more are no `std::time::Duration`, and are refused.
-#[derive(Drop)]
+#[derive(Clone, Copy)]
 pub struct Duration {
     pub secs: u64,
     pub nanos: u32,
 }
 
 // A lifetime in ticks.
-#[derive(Drop)]
+#[derive(Clone, Copy)]
 pub struct TtlTicks(pub u64);
 
-#[derive(Drop)]
+#[derive(Clone, Copy)]
 pub enum Ticked {
     Ticks(TtlTicks),
     Refused(Refusal),

@@ -5,6 +5,8 @@
 //
 // The Rust beside it: docs/src/time.rs (`duration_to_ticks`, `MockClock`), docs/src/traits.rs (`Tick`) and
 // docs/src/policy/expiring.rs (`deadline_from`, `is_expired_at`, the remaining time of `ttl_status`).
+#![tactic(auto)]
+
 mod clock;
 mod duration;
 mod refusal;

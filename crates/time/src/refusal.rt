@@ -2,7 +2,7 @@
 ghost use Rattle.std.specs.Prelude.{◌≡◌};
 ghost use Rattle.time.specs.Refusal.{number_of};
 
-#[derive(Drop)]
+#[derive(Clone, Copy)]
 pub enum Refusal {
     // A capacity above 4,096, a key limit outside 1..4,096, or numbers that no accepted opening hands back.
     LimitOutOfRange,
@@ -18,7 +18,7 @@ pub enum Refusal {
 }
 
 // The answer of a call that has nothing else to say.
-#[derive(Drop)]
+#[derive(Clone, Copy)]
 pub enum Outcome {
     Done,
     Refused(Refusal),

@@ -7,10 +7,10 @@ use crate::duration::TtlTicks;
 // u64::MAX stands for "never" in the source, so no deadline and no advanced clock reaches it.
 const LAST_TICK: u64 = u64::MAX - 1;
 
-#[derive(Drop)]
+#[derive(Clone, Copy)]
 pub struct Tick(pub u64);
 
-#[derive(Drop)]
+#[derive(Clone, Copy)]
 pub enum Remaining {
     Expired,
     Live(TtlTicks),

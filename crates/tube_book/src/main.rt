@@ -2,6 +2,8 @@
 //
 // The answers to a block of input are written before the next block is read, so that whoever waits for an answer at the other
 // end of a pipe gets it.
+#![tactic(auto)]
+
 ghost use Rattle.std.specs.Prelude.{◌≡◌, ◌+◌, ◌<◌, ◌≤◌, min, length, take};
 ghost use Rattle.tube_book.specs.Keeping.{is_ended, Keeps};
 
@@ -9,7 +11,7 @@ use libc::{STDIN_FILENO, STDOUT_FILENO};
 use session::Session;
 
 // A session, and how many bytes at the start of the buffer are a line whose end has not been read.
-#[derive(Drop)]
+#[derive(Clone, Copy)]
 struct Reader {
     session: Session,
     kept: usize,
@@ -83,7 +85,7 @@ fn answer_block(reader: Reader, words: &mut [u64], bytes: &mut [u8], out: &mut [
 }
 
 // How many bytes there are to answer, and whether they are the last.
-#[derive(Drop)]
+#[derive(Clone, Copy)]
 struct Block {
     size: usize,
     is_last: bool,

@@ -17,14 +17,14 @@ use fast_lru_model::Found;
 use time::{Duration, Outcome, Refusal, Tick, Ticked, TtlTicks};
 
 // The answer of a call, and how many entries of the heap it discarded. The book's numbers after it are in their words.
-#[derive(Drop)]
+#[derive(Clone, Copy)]
 pub struct Said {
     pub answer: Answer,
     pub discarded: usize,
 }
 
 // A key's deadline before it was set, or a refusal.
-#[derive(Drop)]
+#[derive(Clone, Copy)]
 struct Redated {
     old: Deadline,
     discarded: usize,
