@@ -1,0 +1,15 @@
+use mathlib.Core.Path.{◌≡◌, refl, sym, ◌∙◌}
+use Prim.Native.Nat.{◌+◌, ◌-◌, ◌≤◌}
+use native.Mathlib.Nat.{add-zero}
+use native.Mathlib.Omega.{arith}
+use borrow.Author.Rules.{rules}
+use lib.ListN.{length, length-drop, drop}
+use Rattle.text.specs.Reading.{read_text}
+use Rattle.text.proofs.Formats.{starts_past, starts_not, starts_all, text_short, byte_off, byte_on, text_whole}
+use Rattle.text.proofs.reader.starts.Given as goal
+
+abbrev pub invariant-loop-i : goal.invariant-loop-i
+invariant-loop-i l = (l.i ≤ length l.text) × (read_text (drop l.i l.text) (drop (l.at + l.i) l.line) ≡ read_text l.text (drop l.at l.line))
+
+abbrev pub decreases-loop-i : goal.decreases-loop-i
+decreases-loop-i l = length l.text - l.i
