@@ -39,6 +39,7 @@ count_append e (x ∷ l) m = omega (arith, count_append e l m)
 
 pub mem_count : (e : Entry) (l : List Entry) → Memᴰ e l → 0 < count e l
 unfolding count
+mem_count e [] m = elim m [ ]
 mem_count e (x ∷ l) (head q) = omega (arith, is_same q)
 mem_count e (x ∷ l) (tail m) = omega (arith, mem_count e l m)
 
