@@ -19,6 +19,7 @@ distinct_by_count count same more [] h = tt
 distinct_by_count count same more (x ∷ l) h = (λ m. omega (arith, h x, same x l, counted l m), distinct_by_count count same more l (λ y. omega (arith, h y, more y x l)))
   where
     counted : (k : List ℕ) → Memᴰ x k → 1 ≤ count x k
+    counted [] m = elim m [ ]
     counted (y ∷ k) (Memᴰ.head e) = rw (sym e) (omega (arith, same x k))
     counted (y ∷ k) (Memᴰ.tail m) = omega (arith, more x y k, counted k m)
 

@@ -259,6 +259,7 @@ module _ (ws : List ℕ) (n k : ℕ) where
   -- a record that is reached is found, where no other in the cells has its key
   from_reach : (s : ℕ) → s < n → key_at ws s ≡ k → ((c r : ℕ) → c < cell_count n → r < n → cell_at ws n c ≡ r + 1 → key_at ws r ≡ k → r ≡ s)
       → {f p : ℕ} (b : ℕ) → p < cell_count n → Reach ws n (s + 1) f p → (c : ℕ) × (probe_from ws n k f p b ≡ At c s)
+  from_reach s l d only {f = zero} b h r = elim r [ ]
   from_reach s l d only {f = suc f} {p = p} b h (here e) = go (step ws n k f p b)
     where
       go : Step ws n k f p b → (c : ℕ) × (probe_from ws n k (suc f) p b ≡ At c s)

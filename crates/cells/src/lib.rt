@@ -5,7 +5,6 @@
 // word. A cell is 0 if it was never used, i + 1 for record i, and anything else for a record that is gone.
 #![tactic(auto)]
 
-
 // Where the probe of a key ended.
 #[derive(Clone, Copy)]
 pub enum Probe {

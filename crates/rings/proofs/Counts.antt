@@ -106,7 +106,7 @@ module _ (x : ℕ) where
   -- x taken out of where it stands and put in front
   pub count_front : (i : ℕ) (l : List ℕ) → count x l ≡ 1 → count i (x ∷ without x l) ≡ count i l
   count_front i l h = by_eq i x
-      (λ e. rw e (omega (arith, count_without_same l, bit_eq x x refl)))
+      (λ e. omega (arith, bit_eq x i (sym e), ap (λ (j : ℕ). count j (without x l)) e, ap (λ (j : ℕ). count j l) e, count_without_same l))
       (λ e. omega (arith, count_without_other i l e, bit_ne x i (omega arith)))
 
   pub mem_without : (y : ℕ) (l : List ℕ) → Memᴰ y (without x l) ↔ (Memᴰ y l × (y ≢ x))
@@ -130,7 +130,7 @@ length_le zero (x ∷ l) h = absurd (omega (arith, h x, bit_eq x x refl, bit_ge 
 length_le (suc k) l h = omega (arith, length_le k (without k l) (without_below k l h), length_without k l, h k, bit_le (ltb k (suc k)))
 
 pub count_cons_le : (f : ℕ → ℕ) (x : ℕ) (l : List ℕ) → ((i : ℕ) → count i l ≤ f i) → count x l + 1 ≤ f x → (i : ℕ) → count i (x ∷ l) ≤ f i
-count_cons_le f x l h k i = by_eq x i (λ e. rw (← e) (omega (arith, bit_le (eqb x x)))) (λ e. omega (arith, h i, bit_ne x i e))
+count_cons_le f x l h k i = by_eq x i (λ e. omega (arith, k, bit_le (eqb x i), ap f e, ap (λ (j : ℕ). count j l) e)) (λ e. omega (arith, h i, bit_ne x i e))
 
 pub count_full : (n : ℕ) (l : List ℕ) → ((i : ℕ) → count i l ≤ bit (ltb i n)) → length l ≡ n → (i : ℕ) → count i l ≡ bit (ltb i n)
 count_full n l h e i = by_lt (count i l) (bit (ltb i n))

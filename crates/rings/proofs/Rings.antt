@@ -1,7 +1,7 @@
 -- Edges, and lists of them. An edge is linked both ways, so a node has one edge in and one out: an edge that x is no end of
 -- stays when x goes out, one that neither leaves s nor touches x stays when x goes in after s, and one that leaves neither
 -- s nor t and does not come back to s stays when the ring of s goes in after t.
-use mathlib.Core.Path.{◌≡◌, refl, sym, ap, ◌∙◌}
+use mathlib.Core.Path.{◌≡◌, refl, sym, ap, subst, ◌∙◌}
 use mathlib.Core.Logic.{◌≢◌, ◌⊎◌, inl, inr}
 use mathlib.Core.List.{List, [], ◌∷◌, ◌++◌}
 use Prim.Native.Nat.{ℕ, zero, suc, ◌*◌, ◌<◌, ◌≤◌}
@@ -187,7 +187,7 @@ module _ (N : ℕ) (ws : List ℕ) (fit : 5 * N ≤ length ws) where
     pub ring_attached : count s l ≡ 0 → count x (s ∷ l) ≡ 0 → Ring N (attached N ws s x) s (x ∷ l)
     ring_attached hs h =
         let es = edge_first N ws s l s r in
-        rw (attached_in s x es.from hx es.to) (linked_in N ws s (next ws s) x fit hx es l s hs h (apart x s l h) r)
+        subst (λ (vs : List ℕ). Ring N vs s (x ∷ l)) (sym (attached_in s x es.from hx es.to)) (linked_in N ws s (next ws s) x fit hx es l s hs h (apart x s l h) r)
 
     -- a ring that has neither x nor s stays
     pub ring_attached_other : (t : ℕ) (m : List ℕ) → count s (t ∷ m) ≡ 0 → count x (t ∷ m) ≡ 0 → Ring N ws t m → Ring N (attached N ws s x) t m
@@ -206,13 +206,13 @@ module _ (N : ℕ) (ws : List ℕ) (fit : 5 * N ≤ length ws) where
       let hf : next ws t ≢ s = next_apart N ws t m t s o (omega arith) ht in
       let ep = edge_last N ws s (x ∷ l) s r in
       let ef = edge_first N ws t m t o in
-      rw (r.0.forward, ne_eqb x s hx)
-      (rw (joined_in N ws t x ef.from r.0.to)
-      (rw (joined_in N _ (prev ws s) (next ws t) ep.from ef.to)
-      (rw (joined_in N _ s s ep.to ep.to) (
+      let e : spliced N ws s t ≡ linked (linked (linked ws t x) (prev ws s) (next ws t)) s s =
+      rw (r.0.forward, ne_eqb x s hx, joined_in N ws t x ef.from r.0.to)
+      (rw (joined_in N _ (prev ws s) (next ws t) ep.from ef.to) (joined_in N _ s s ep.to ep.to)) in
+      subst (λ (vs : List ℕ). Ring N vs s [] × Ring N vs t (x ∷ (l ++ m))) (sym e) (
         edge_over_alone N ws s x (prev ws s) t (next ws t) fit r.0 ep ef hx ht hf,
         (
           edge_over_first N ws s x (prev ws s) t (next ws t) fit r.0 ep ef hx ht hf,
           linked_over N ws s x (prev ws s) t (next ws t) fit r.0 ep ef hx ht hf x l m hl (omega arith) (omega arith) km r.1 o,
         ),
-      ))))
+      )

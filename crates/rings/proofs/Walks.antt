@@ -93,8 +93,8 @@ linked_once : (N : ℕ) (ws r : List ℕ) → ((x : ℕ) → count x r ≤ 1) �
     → ((y : ℕ) → 1 ≤ count y l → 1 ≤ count y r → 1 ≤ count (prev ws y) r) → (x : ℕ) → count x (a ∷ (l ++ r)) ≤ 1
 linked_once N ws r le a [] z e h back = count_cons_le (λ i. 1) a r le (omega arith)
 linked_once N ws r le a (y ∷ l) z e h back =
-    let not-l : 1 ≤ count y l → ⊥ = λ k. omega (arith, count_append a l r, rw e.0.backward at (edges_around N ws y l z y e.1 k).2) in
-    let not-r : 1 ≤ count y r → ⊥ = λ k. omega (arith, count_append a l r, rw e.0.backward at (back y (omega (arith, bit_eq y y refl)) k)) in
+    let not-l : 1 ≤ count y l → ⊥ = λ k. omega (arith, count_append a l r, ap (λ (j : ℕ). count j (y ∷ l)) e.0.backward, (edges_around N ws y l z y e.1 k).2) in
+    let not-r : 1 ≤ count y r → ⊥ = λ k. omega (arith, count_append a l r, ap (λ (j : ℕ). count j r) e.0.backward, back y (omega (arith, bit_eq y y refl)) k) in
     let rest = linked_once N ws r le y l z e.1 (omega (arith, count_append y l r)) (λ i p q. back i (omega arith) q) in
     count_cons_le (λ i. 1) a (y ∷ (l ++ r)) rest (omega arith)
 

@@ -3,4 +3,3 @@
 //
 // Node i is the five words from 5 i on; its links are the last two, the previous node and the next one.
 #![tactic(auto)]
-
