@@ -18,8 +18,9 @@ mod lent;
 mod line;
 mod print;
 
-use libc::STDIN_FILENO;
 use line::Line;
+use std::io;
+use std::io::Read;
 use time::MockClock;
 
 #[derive(Clone, Copy)]
@@ -28,29 +29,27 @@ struct Session {
     line: Line,
 }
 
-fn step(session: Session, byte: u8) -> Session {
+fn step(rt: &impl Print, session: Session, byte: u8) -> io::Result<Session> {
     let line = session.line;
     let clock = session.clock;
     if byte == b'\n' {
-        return Session {
-            clock: print::answer(line, clock),
+        return Ok(Session {
+            clock: print::answer(rt, line, clock)?,
             line: line::empty(),
-        };
+        });
     }
-    Session {
+    Ok(Session {
         clock,
         line: line::with_byte(line, byte),
-    }
+    })
 }
 
-fn run(session: Session, bytes: &[u8]) -> Session {
+fn run(rt: &impl Print, session: Session, bytes: &[u8]) -> io::Result<Session> {
     let mut s = session;
-    let mut i = 0;
-    while i < bytes.len() {
-        s = step(s, bytes[i]);
-        i += 1;
+    for byte in bytes {
+        s = step(rt, s, *byte)?;
     }
-    s
+    Ok(s)
 }
 
 #[derive(Clone, Copy)]
@@ -60,35 +59,34 @@ struct Block {
 }
 
 // Answers one block of the input.
-fn read_block(session: Session) -> Block {
-    let mut bytes = io::large_buffer();
-    let got = libc::read(STDIN_FILENO, &mut bytes);
-    let n = io::count(got, &bytes);
+fn read_block(rt: &impl Print, input: &mut impl Read, session: Session) -> io::Result<Block> {
+    let mut bytes = [0u8; 65536];
+    let n = input.read(&mut bytes)?;
     if n == 0 {
-        return Block {
+        return Ok(Block {
             session,
             is_last: true,
-        };
+        });
     }
-    Block {
-        session: run(session, &bytes[..n]),
+    Ok(Block {
+        session: run(rt, session, &bytes[..n])?,
         is_last: false,
-    }
+    })
 }
 
-// Every loop has to end, and nothing says that an input does: the blocks are counted down from a number that no run uses up.
-fn main() {
+// Every loop has to end, and nothing says that an input does: the blocks are counted up to a number that no run reaches.
+fn main(rt: HostRuntime) -> io::Result<()> {
+    let mut input = rt.reader();
     let mut session = Session {
         clock: MockClock::new(),
         line: line::empty(),
     };
-    let mut left = u64::MAX;
-    while left > 0 {
-        let block = read_block(session);
+    for _ in 0..u64::MAX {
+        let block = read_block(&rt, &mut input, session)?;
         if block.is_last {
-            return;
+            break;
         }
         session = block.session;
-        left -= 1;
     }
+    Ok(())
 }

@@ -1,100 +1,79 @@
 // The answer to a line's question, from the crate `time`, on standard output.
 use crate::lent;
 use crate::line::Line;
-use libc::STDOUT_FILENO;
+use std::io;
 use time::{Duration, MockClock, Outcome, Refusal, Remaining, Tick, Ticked};
 
 // Writes the line and its answer, and hands back the clock after it.
-pub fn answer(line: Line, clock: MockClock) -> MockClock {
+pub fn answer(rt: &impl Print, line: Line, clock: MockClock) -> io::Result<MockClock> {
     let text = line.text;
-    write_text(&text, line.length);
+    write_text(rt, &text, line.length)?;
     let letter = line.letter;
     if letter == b'#' {
-        io::write_all(STDOUT_FILENO, b"\n");
-        return clock;
+        rt.write_all(b"\n")?;
+        return Ok(clock);
     }
-    io::write_all(STDOUT_FILENO, b" = ");
+    rt.write_all(b" = ")?;
     if line.is_malformed {
-        io::write_all(STDOUT_FILENO, b"no question\n");
-        return clock;
+        rt.write_all(b"no question\n")?;
+        return Ok(clock);
     }
     let numbers = line.numbers;
-    let after = reply(letter, numbers, clock);
-    io::write_all(STDOUT_FILENO, b"\n");
-    after
+    let after = reply(rt, letter, numbers, clock)?;
+    rt.write_all(b"\n")?;
+    Ok(after)
 }
 
-fn write_text(text: &[u8], length: usize) {
+fn write_text(rt: &impl Print, text: &[u8], length: usize) -> io::Result<()> {
     if length <= text.len() {
-        io::write_all(STDOUT_FILENO, &text[..length]);
+        rt.write_all(&text[..length])?;
     }
+    Ok(())
 }
 
-fn reply(letter: u8, n: [u64; 3], clock: MockClock) -> MockClock {
+fn reply(rt: &impl Print, letter: u8, n: [u64; 3], clock: MockClock) -> io::Result<MockClock> {
     match letter {
-        b't' => {
-            ticks(Duration::of(n[0], n[1]));
-            clock
-        }
-        b'z' => {
-            yes_or_no(Duration::of(n[0], n[1]).is_zero());
-            clock
-        }
-        b'd' => {
-            deadline(Tick(n[0]), Duration::of(n[1], n[2]));
-            clock
-        }
-        b'r' => {
-            remaining(Tick(n[0]), Tick(n[1]));
-            clock
-        }
-        b'c' => shown(MockClock::with_tick(Tick(n[0]))),
-        b's' => set(clock, Tick(n[0])),
-        b'a' => advance(clock, Duration::of(n[0], n[1])),
-        _ => {
-            io::write_all(STDOUT_FILENO, b"no question");
-            clock
-        }
+        b't' => ticks(rt, Duration::of(n[0], n[1]))?,
+        b'z' => yes_or_no(rt, Duration::of(n[0], n[1]).is_zero())?,
+        b'd' => deadline(rt, Tick(n[0]), Duration::of(n[1], n[2]))?,
+        b'r' => remaining(rt, Tick(n[0]), Tick(n[1]))?,
+        b'c' => return shown(rt, MockClock::with_tick(Tick(n[0]))),
+        b's' => return set(rt, clock, Tick(n[0])),
+        b'a' => return advance(rt, clock, Duration::of(n[0], n[1])),
+        _ => rt.write_all(b"no question")?,
     }
+    Ok(clock)
 }
 
-fn ticks(d: Duration) {
+fn ticks(rt: &impl Print, d: Duration) -> io::Result<()> {
     match time::duration_to_ticks(d) {
-        Ticked::Ticks(ttl) => {
-            io::print_decimal(STDOUT_FILENO, ttl.0);
-        }
-        Ticked::Refused(why) => refused(why),
+        Ticked::Ticks(ttl) => rt.print(ttl.0),
+        Ticked::Refused(why) => refused(rt, why),
     }
 }
 
-fn deadline(tick: Tick, d: Duration) {
+fn deadline(rt: &impl Print, tick: Tick, d: Duration) -> io::Result<()> {
     match time::duration_to_ticks(d) {
-        Ticked::Ticks(ttl) => {
-            io::print_decimal(STDOUT_FILENO, tick.deadline_from(ttl).as_u64());
-        }
-        Ticked::Refused(why) => refused(why),
+        Ticked::Ticks(ttl) => rt.print(tick.deadline_from(ttl).as_u64()),
+        Ticked::Refused(why) => refused(rt, why),
     }
 }
 
-fn remaining(deadline: Tick, tick: Tick) {
+fn remaining(rt: &impl Print, deadline: Tick, tick: Tick) -> io::Result<()> {
     match deadline.remaining_at(tick) {
-        Remaining::Live(ttl) => {
-            io::print_decimal(STDOUT_FILENO, ttl.0);
-        }
-        Remaining::Expired => {
-            io::write_all(STDOUT_FILENO, b"expired");
-        }
+        Remaining::Live(ttl) => rt.print(ttl.0),
+        Remaining::Expired => rt.write_all(b"expired"),
     }
 }
 
 // A step is taken by value and by the lent form. The answer is the lent clock's; where the two differ, it says so.
-fn set(clock: MockClock, tick: Tick) -> MockClock {
-    let after = shown(lent::set(clock, tick));
-    compare(clock.set(tick), after);
-    after
+fn set(rt: &impl Print, clock: MockClock, tick: Tick) -> io::Result<MockClock> {
+    let after = shown(rt, lent::set(clock, tick))?;
+    compare(rt, clock.set(tick), after)?;
+    Ok(after)
 }
 
-fn advance(clock: MockClock, delta: Duration) -> MockClock {
+fn advance(rt: &impl Print, clock: MockClock, delta: Duration) -> io::Result<MockClock> {
     let advanced = lent::advance(clock, delta);
     let outcome = advanced.outcome;
     let after = advanced.clock;
@@ -102,23 +81,23 @@ fn advance(clock: MockClock, delta: Duration) -> MockClock {
     let expected = by_value.outcome;
     match outcome {
         Outcome::Done => {
-            shown(after);
+            shown(rt, after)?;
         }
-        Outcome::Refused(why) => refused(why),
+        Outcome::Refused(why) => refused(rt, why)?,
     }
-    compare(by_value.clock, after);
+    compare(rt, by_value.clock, after)?;
     if refusal_number(expected) != refusal_number(outcome) {
-        io::write_all(STDOUT_FILENO, b", by value another outcome");
+        rt.write_all(b", by value another outcome")?;
     }
-    after
+    Ok(after)
 }
 
-fn compare(by_value: MockClock, lent: MockClock) {
+fn compare(rt: &impl Print, by_value: MockClock, lent: MockClock) -> io::Result<()> {
     let tick = by_value.now().as_u64();
     if tick != lent.now().as_u64() {
-        io::write_all(STDOUT_FILENO, b", by value ");
-        io::print_decimal(STDOUT_FILENO, tick);
+        print!(rt; ", by value {tick}")?;
     }
+    Ok(())
 }
 
 // 0 where nothing was refused.
@@ -129,20 +108,19 @@ fn refusal_number(outcome: Outcome) -> u64 {
     }
 }
 
-fn shown(clock: MockClock) -> MockClock {
-    io::print_decimal(STDOUT_FILENO, clock.now().as_u64());
-    clock
+fn shown(rt: &impl Print, clock: MockClock) -> io::Result<MockClock> {
+    rt.print(clock.now().as_u64())?;
+    Ok(clock)
 }
 
-fn refused(why: Refusal) {
-    io::write_all(STDOUT_FILENO, b"refused ");
-    io::print_decimal(STDOUT_FILENO, why.number());
+fn refused(rt: &impl Print, why: Refusal) -> io::Result<()> {
+    print!(rt; "refused {}", why.number())
 }
 
-fn yes_or_no(yes: bool) {
+fn yes_or_no(rt: &impl Print, yes: bool) -> io::Result<()> {
     if yes {
-        io::write_all(STDOUT_FILENO, b"yes");
+        rt.write_all(b"yes")
     } else {
-        io::write_all(STDOUT_FILENO, b"no");
+        rt.write_all(b"no")
     }
 }
