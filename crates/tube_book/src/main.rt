@@ -7,8 +7,8 @@
 ghost use Rattle.std.specs.Prelude.{◌≡◌, ◌+◌, ◌<◌, ◌≤◌, min, length, take};
 ghost use Rattle.tube_book.specs.Keeping.{is_ended, Keeps};
 
-use libc::{STDIN_FILENO, STDOUT_FILENO};
 use session::Session;
+use std::io::Read;
 
 // A session, and how many bytes at the start of the buffer are a line whose end has not been read.
 #[derive(Clone, Copy)]
@@ -37,11 +37,11 @@ fn is_ended(session: Session) -> bool
 }
 
 // There are words for the largest book that a session opens, with 128 keys and 128 deadlines.
-fn main() {
+fn main(rt: HostRuntime) {
     let mut words = words();
-    let mut bytes = io::large_buffer();
-    let mut out = io::large_buffer();
-    answer_all(&mut words, &mut bytes, &mut out);
+    let mut bytes = [0u8; 65536];
+    let mut out = [0u8; 65536];
+    answer_all(&rt, &mut rt.reader(), &mut words, &mut bytes, &mut out);
 }
 
 // The `ensures` gives the length alone, which lending the array needs.
@@ -51,33 +51,44 @@ fn words() -> [u64; 5248]
     [0; 5248]
 }
 
-// Every loop has to end, and nothing says that an input does: the blocks are counted down from a number that no run uses up.
-fn answer_all(words: &mut [u64], bytes: &mut [u8], out: &mut [u8]) {
+// Every loop has to end, and nothing says that an input does: the blocks are counted up to a number that no run reaches.
+fn answer_all(
+    rt: &impl Print,
+    input: &mut impl Read,
+    words: &mut [u64],
+    bytes: &mut [u8],
+    out: &mut [u8],
+) {
     let mut reader = Reader {
         session: Session::Waiting,
         kept: 0,
         is_done: false,
     };
-    let mut left = u64::MAX;
-    while left > 0 {
-        reader = answer_block(reader, words, bytes, out);
+    for _ in 0..u64::MAX {
+        reader = answer_block(rt, input, reader, words, bytes, out);
         if reader.is_done {
             return;
         }
-        left -= 1;
     }
 }
 
 // Reads a block behind what is kept, and answers its lines.
-fn answer_block(reader: Reader, words: &mut [u64], bytes: &mut [u8], out: &mut [u8]) -> Reader {
+fn answer_block(
+    rt: &impl Print,
+    input: &mut impl Read,
+    reader: Reader,
+    words: &mut [u64],
+    bytes: &mut [u8],
+    out: &mut [u8],
+) -> Reader {
     let session = reader.session;
     let kept = reader.kept;
     if bytes.len() <= kept {
         return done();
     }
-    let block = read_block(bytes, kept);
+    let block = read_block(input, bytes, kept);
     let size = block.size;
-    let after = answer_lines(session, words, bytes, size, out);
+    let after = answer_lines(rt, session, words, bytes, size, out);
     if block.is_last {
         return done();
     }
@@ -92,11 +103,11 @@ struct Block {
 }
 
 // At the end of the input a last line that lacks its newline is given it.
-fn read_block(bytes: &mut [u8], kept: usize) -> Block
+fn read_block(input: &mut impl Read, bytes: &mut [u8], kept: usize) -> Block
     requires { kept < length bytes.old }
     ensures { result.size ≤ length bytes.old }
 {
-    let n = read_behind(bytes, kept);
+    let n = read_behind(input, bytes, kept);
     if 0 < n {
         return Block {
             size: kept + n,
@@ -116,18 +127,21 @@ fn read_block(bytes: &mut [u8], kept: usize) -> Block
     }
 }
 
-fn read_behind(bytes: &mut [u8], kept: usize) -> usize
+// A read that fails counts as the end of the input.
+fn read_behind(input: &mut impl Read, bytes: &mut [u8], kept: usize) -> usize
     requires { kept ≤ length bytes.old }
     ensures result_in_bounds { kept + result ≤ length bytes.old }
     ensures bytes_unchanged { take kept bytes.new ≡ take kept bytes.old }
 {
-    let rest = &mut bytes[kept..];
-    let got = libc::read(STDIN_FILENO, rest);
-    io::count(got, rest)
+    match input.read(&mut bytes[kept..]) {
+        Ok(n) => n,
+        Err(_) => 0,
+    }
 }
 
-// Answers the lines of the first bytes, as many of them as there are, and keeps what is left.
+// Answers the lines of the first bytes, as many of them as there are, and keeps what is left. A write that fails ends the run.
 fn answer_lines(
+    rt: &impl Print,
     session: Session,
     words: &mut [u64],
     bytes: &mut [u8],
@@ -143,7 +157,7 @@ fn answer_lines(
         let read = ran.read;
         let written = ran.written;
         session = ran.session;
-        if !io::write_all(STDOUT_FILENO, &out[..written]) {
+        if rt.write_all(&out[..written]).is_err() {
             return done();
         }
         if read == 0 {
