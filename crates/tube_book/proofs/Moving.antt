@@ -1,12 +1,7 @@
 -- Bytes moved to the start, one after the other.
-use mathlib.Core.Path.{◌≡◌, refl, ◌∙◌}
-use mathlib.Core.Logic.{◌≢◌}
-use mathlib.Core.List.{List}
-use Prim.Native.Nat.{ℕ, ◌+◌, ◌<◌, ◌≤◌}
-use native.Mathlib.Numerals.{add-one}
-use native.Mathlib.Omega.{arith}
-use lib.ListN.{length, get_or, take, drop, set, length-set, length-drop}
-use lib.Seq.{get_or-drop, get_or-set_other, take-suc, take-suc-set}
+use Rattle.std.proofs.Common.{◌≡◌, ◌≢◌, ℕ, ◌+◌, ◌<◌, ◌≤◌, List, length, get_or, take, drop, set, refl, ◌∙◌, arith, add-one}
+use Rattle.std.proofs.Math.Seq.{take-suc, take-suc-set}
+use Rattle.std.proofs.lemmas.List.{length-set, length-drop, get_or-drop, get_or-set_other}
 
 -- the first i of the bytes from a place on are at the start, and from i on nothing has changed
 pub record Moved (bytes : List ℕ) (start : ℕ) (bytes' : List ℕ) (i : ℕ) : Type 0 where
