@@ -1,0 +1,6 @@
+use borrow.Author.Rules.{rules}
+use Rattle.fast_lru.proofs.Slots.{choosing}
+use Rattle.fast_lru.proofs.lru.FastLru.victim.Goals as goal
+
+pub returns : goal.returns
+returns c = choosing _ _ _ c.oldest.ensures

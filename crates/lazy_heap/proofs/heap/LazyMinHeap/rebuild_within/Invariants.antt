@@ -1,0 +1,12 @@
+use mathlib.Core.Path.{refl}
+use borrow.Author.Rules.{rules}
+use Rattle.lazy_heap.proofs.Settling.{room_entered}
+use Rattle.lazy_heap.proofs.Refilling.{Refilling, refilling_start, refilling_on}
+use Rattle.lazy_heap.proofs.Stepping.{rebuilding, rebuilding_none}
+use Rattle.lazy_heap.proofs.heap.LazyMinHeap.rebuild_within.Given as goal
+
+abbrev pub invariant-loop-left : goal.invariant-loop-left
+invariant-loop-left l = Refilling l.initial.words l.initial.heap l.words l.heap l.left l.s
+
+abbrev pub decreases-loop-left : goal.decreases-loop-left
+decreases-loop-left l = l.left
