@@ -72,7 +72,7 @@ pub fn set(clock: &mut MockClock, tick: Tick)
 
 // The owner's clock, lent to be moved on. A refused step leaves it as it was.
 pub fn advance(clock: &mut MockClock, delta: Duration) -> Outcome
-    ensures { record { clock = clock.exit.now; outcome = result } ≡ advanced clock.entry.now delta }
+    ensures { record { clock = clock.new; outcome = result } ≡ advanced clock.old delta }
 {
     let step = clock.advance(delta);
     *clock = step.clock;

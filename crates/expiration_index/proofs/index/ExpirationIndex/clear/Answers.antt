@@ -1,0 +1,6 @@
+use borrow.Author.Rules.{rules}
+use Rattle.expiration_index.proofs.Calling.{clearing}
+use Rattle.expiration_index.proofs.index.ExpirationIndex.clear.Goals as goal
+
+pub returns : goal.returns
+returns c = clearing c.clear-cleared.ensures

@@ -1,0 +1,6 @@
+use borrow.Author.Rules.{rules}
+use Rattle.expiration_index.proofs.Calling.{containing}
+use Rattle.expiration_index.proofs.index.ExpirationIndex.contains.Goals as goal
+
+pub returns : goal.returns
+returns c = containing c.score_of.ensures c.held_in.ensures

@@ -1,0 +1,6 @@
+use borrow.Author.Rules.{rules}
+use Rattle.expiration_index.proofs.Calling.{expired_asked}
+use Rattle.expiration_index.proofs.index.ExpirationIndex.expired_count.Goals as goal
+
+pub returns : goal.returns
+returns c = expired_asked _ c.count_in.ensures c.count_at_most.ensures

@@ -1,0 +1,6 @@
+use borrow.Author.Rules.{rules}
+use Rattle.expiration_index.proofs.Calling.{looking}
+use Rattle.expiration_index.proofs.index.ExpirationIndex.next_deadline.Goals as goal
+
+pub returns : goal.returns
+returns c = looking c.peek_best-peeked.ensures c.due_in.ensures

@@ -1,0 +1,6 @@
+use borrow.Author.Rules.{rules}
+use Rattle.expiration_index.proofs.Calling.{popping}
+use Rattle.expiration_index.proofs.index.ExpirationIndex.pop_expired.Goals as goal
+
+pub returns : goal.returns
+returns c = popping c.pop_at_most-popped.ensures c.due_in.ensures

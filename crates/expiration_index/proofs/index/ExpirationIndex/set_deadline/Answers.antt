@@ -1,0 +1,7 @@
+use native.Mathlib.Omega.{arith}
+use borrow.Author.Rules.{rules}
+use Rattle.expiration_index.proofs.Calling.{setting}
+use Rattle.expiration_index.proofs.index.ExpirationIndex.set_deadline.Goals as goal
+
+pub returns : goal.returns
+returns c = setting c.update-updated.ensures c.deadline_in.ensures (omega arith)

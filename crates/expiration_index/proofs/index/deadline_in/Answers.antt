@@ -1,0 +1,8 @@
+use borrow.Author.Rules.{rules}
+use Rattle.expiration_index.proofs.index.deadline_in.Goals as goal
+
+pub returns-in-Value : goal.returns-in-Value
+returns-in-Value c = rw c.in-Value.is
+
+pub returns-in-Refused : goal.returns-in-Refused
+returns-in-Refused c = rw c.in-Refused.is
