@@ -1,0 +1,12 @@
+-- Each arm is the case of `of_rank` that the match found.
+use borrow.Author.Rules.{rules}
+use Rattle.replay_fast_lru.proofs.answer.of_rank.Goals as goal
+
+pub returns-in-At : goal.returns-in-At
+returns-in-At c = cc
+
+pub returns-in-Nothing : goal.returns-in-Nothing
+returns-in-Nothing c = cc
+
+pub returns-in-Refused : goal.returns-in-Refused
+returns-in-Refused c = cc

@@ -1,0 +1,6 @@
+-- The numbers are those that `map_in` read.
+use borrow.Author.Rules.{rules}
+use Rattle.replay_fast_lru.proofs.list.lru_in.Goals as goal
+
+pub returns : goal.returns
+returns c = cc

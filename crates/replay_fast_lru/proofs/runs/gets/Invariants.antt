@@ -1,0 +1,12 @@
+use Prim.Native.Nat.{◌-◌}
+use native.Mathlib.Omega.{arith}
+use borrow.Author.Rules.{rules}
+use Rattle.replay_fast_lru.specs.Steps.{gotten, Onward}
+use Rattle.replay_fast_lru.proofs.Onward.{on_start, on_stop, on_more}
+use Rattle.replay_fast_lru.proofs.runs.gets.Given as goal
+
+abbrev pub invariant-loop-i : goal.invariant-loop-i
+invariant-loop-i l = Onward l.calls l.from l.count l.initial.words l.initial.lru l.initial.answers l.i l.words l.lru l.answers
+
+abbrev pub decreases-loop-i : goal.decreases-loop-i
+decreases-loop-i l = l.count - l.i

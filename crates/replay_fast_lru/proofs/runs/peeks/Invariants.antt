@@ -1,0 +1,13 @@
+use mathlib.Core.Path.{refl}
+use Prim.Native.Nat.{◌-◌}
+use native.Mathlib.Omega.{arith}
+use borrow.Author.Rules.{rules}
+use Rattle.replay_fast_lru.specs.Steps.{peeked, Onward}
+use Rattle.replay_fast_lru.proofs.Onward.{on_start, on_stop, on_more}
+use Rattle.replay_fast_lru.proofs.runs.peeks.Given as goal
+
+abbrev pub invariant-loop-i : goal.invariant-loop-i
+invariant-loop-i l = Onward l.calls l.from l.count l.words l.lru l.initial.answers l.i l.words l.lru l.answers
+
+abbrev pub decreases-loop-i : goal.decreases-loop-i
+decreases-loop-i l = l.count - l.i
