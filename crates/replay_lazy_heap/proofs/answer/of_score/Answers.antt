@@ -1,0 +1,12 @@
+-- Each arm is the case of `of_score` that the match found.
+use borrow.Author.Rules.{rules}
+use Rattle.replay_lazy_heap.proofs.answer.of_score.Goals as goal
+
+pub returns-in-Value : goal.returns-in-Value
+returns-in-Value c = cc
+
+pub returns-in-Nothing : goal.returns-in-Nothing
+returns-in-Nothing c = cc
+
+pub returns-in-Refused : goal.returns-in-Refused
+returns-in-Refused c = cc
