@@ -43,4 +43,4 @@ returns-in-99 c = c.clear.ensures ∙ sym (lettered _ _ _ c.if-line-at.false c.i
 
 pub returns-in_default : goal.returns-in_default
 unfolding by_letter
-returns-in_default c = sym (lettered _ _ _ c.if-line-at.false refl ∙ no_letter _ _ _ c.in_default.rest)
+returns-in_default c = sym (lettered _ _ _ c.if-line-at.false refl ∙ no_letter _ _ _ c.in_default.in_default-own.rest)

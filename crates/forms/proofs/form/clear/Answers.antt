@@ -5,17 +5,10 @@ use Rattle.forms.specs.Reading.{clear_in}
 use Rattle.forms.proofs.Wholes.{ended, unended}
 use Rattle.forms.proofs.form.clear.Goals as goal
 
-pub ends-requires : goal.ends-requires
-unfolding clear_in
-ends-requires c = refl c
-
 pub returns-then-ends : goal.returns-then-ends
 unfolding clear_in
-returns-then-ends c = c.ends.ensures c
+returns-then-ends c = simp (ended (bytes "clear))") refl c.ends.ensures c.if-ends.true)
 
 pub returns : goal.returns
 unfolding clear_in
-returns c = c.if-ends.true c
-
--- TAIL ))
---     (λ c. simp (unended (bytes "clear))") refl c.before.ends.ensures c.if1.false)))
+returns c = simp (unended (bytes "clear))") refl c.ends.ensures c.if-ends.false)

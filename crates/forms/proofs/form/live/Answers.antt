@@ -5,17 +5,10 @@ use Rattle.forms.specs.Reading.{live_in}
 use Rattle.forms.proofs.Wholes.{ended, unended}
 use Rattle.forms.proofs.form.live.Goals as goal
 
-pub ends-requires : goal.ends-requires
-unfolding live_in
-ends-requires c = refl c
-
 pub returns-then-ends : goal.returns-then-ends
 unfolding live_in
-returns-then-ends c = c.ends.ensures c
+returns-then-ends c = simp (ended (bytes "live))") refl c.ends.ensures c.if-ends.true)
 
 pub returns : goal.returns
 unfolding live_in
-returns c = c.if-ends.true c
-
--- TAIL ))
---     (λ c. simp (unended (bytes "live))") refl c.before.ends.ensures c.if1.false)))
+returns c = simp (unended (bytes "live))") refl c.ends.ensures c.if-ends.false)
