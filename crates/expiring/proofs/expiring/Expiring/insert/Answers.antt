@@ -1,0 +1,9 @@
+use native.Mathlib.Omega.{arith}
+use Rattle.expiring.proofs.Changing.{told_of}
+use borrow.Author.Rules.{rules}
+use Rattle.expiring.proofs.expiring.Expiring.insert.Goals as goal
+
+-- The numbers that were stored tell the book itself.
+
+pub returns : goal.returns
+returns c = rw c.reply_in.ensures (told_of _ c.store_book.new.0 (omega arith) c.store_book.ensures (c.insert-said.ensures.call (omega arith)))

@@ -1,0 +1,12 @@
+use mathlib.Core.Path.{sym, ◌∙◌}
+use native.Mathlib.Omega.{arith}
+use Rattle.expiring.proofs.Acting.{follow_limits}
+use Rattle.expiring.proofs.Following.{follow_oldest}
+use borrow.Author.Rules.{rules}
+use Rattle.expiring.proofs.expiring.Expiring.peek_lru.Goals as goal
+
+pub returns-in-Refused : goal.returns-in-Refused
+returns-in-Refused c = rw c.refused.ensures (follow_limits _ _ _ _ (sym c.limits.ensures ∙ c.in-Refused.is))
+
+pub returns-in-Done : goal.returns-in-Done
+returns-in-Done c = let l = sym c.limits.ensures ∙ c.in-Done.is in rw c.answered.ensures (follow_oldest _ _ _ l (omega (arith, c.well_formed)) c.peek_lru.ensures c.of_oldest.ensures)

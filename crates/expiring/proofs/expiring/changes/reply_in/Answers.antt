@@ -1,0 +1,6 @@
+use mathlib.Core.Path.{refl}
+use borrow.Author.Rules.{rules}
+use Rattle.expiring.proofs.expiring.changes.reply_in.Goals as goal
+
+pub returns : goal.returns
+returns c = rw c.book_in-book.ensures refl

@@ -1,0 +1,6 @@
+-- The answer is what `of_outcome` ensures.
+use borrow.Author.Rules.{rules}
+use Rattle.replay_expiration_index.proofs.call.opened.Goals as goal
+
+pub returns : goal.returns
+returns c = cc

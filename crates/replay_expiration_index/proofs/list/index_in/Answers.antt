@@ -1,0 +1,6 @@
+-- The numbers are those that `heap_in` read.
+use borrow.Author.Rules.{rules}
+use Rattle.replay_expiration_index.proofs.list.index_in.Goals as goal
+
+pub returns : goal.returns
+returns c = cc
