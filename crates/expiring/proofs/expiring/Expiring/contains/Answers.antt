@@ -7,7 +7,7 @@ use borrow.Author.Rules.{rules}
 use Rattle.expiring.proofs.expiring.Expiring.contains.Goals as goal
 
 pub is_expired-requires : goal.is_expired-requires
-is_expired-requires c = let e = c in limits_room _ _ _ (sym e.before.before.limits.ensures ∙ e.enum_told.given.1)
+is_expired-requires c = limits_room _ _ _ (sym c.limits.ensures ∙ c.in-Done.is)
 
 pub returns-then-is_expired : goal.returns-then-is_expired
 returns-then-is_expired c = let l = sym c.limits.ensures ∙ c.in-Done.is in rw c.answered.ensures (follow_contains _ _ _ l (omega (arith, c.well_formed)) c.is_expired.ensures c.if-is_expired.true)

@@ -6,4 +6,4 @@ use Rattle.expiring.proofs.expiring.Expiring.remove.Goals as goal
 -- The numbers that were stored tell the book itself.
 
 pub returns : goal.returns
-returns c = rw c.reply_in.ensures (told_of _ c.store_book.new.0 (omega arith) c.store_book.ensures (c.remove-said.ensures.call (omega arith)))
+returns c = rw c.reply_in.ensures (told_of _ c.store_book.new.numbers (omega arith) c.store_book.ensures (c.remove-said.ensures.call (omega arith)))

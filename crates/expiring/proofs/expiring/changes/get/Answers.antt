@@ -31,8 +31,8 @@ returns-then-is_expired c =
     let limits = limits_in_lem ns c.book_in-book.ensures (length c.args.words.now) c.limits.ensures c.in-Done.is in
     let w : get_or ns 11 0 < 2 ^ 64 = omega (arith, c.slice_known-1.given 11) in
     let stay = c.drop_both.ensures.0 in
-    let still : 12 ≤ length c.drop_both.new.0 = omega (arith, stay.size, twelve) in
-    changing twelve (rw c.count_expiration.ensures (stay_then stay (stay_expiration _))) (rw c.answering-then-is_expired.ensures (told_in_lem c.count_expiration.new.0 (rw c.count_expiration.ensures (sym (expiration_stored _ still))) (follow_get_expired _ (book_in ns) _ limits w (rw c.book_in-book.ensures at c.is_expired.ensures) c.if-is_expired.true c.drop_both.ensures.1)))
+    let still : 12 ≤ length c.drop_both.new.numbers = omega (arith, stay.size, twelve) in
+    changing twelve (rw c.count_expiration.ensures (stay_then stay (stay_expiration _))) (rw c.answering-then-is_expired.ensures (told_in_lem c.count_expiration.new.numbers (rw c.count_expiration.ensures (sym (expiration_stored _ still))) (follow_get_expired _ (book_in ns) _ limits w (rw c.book_in-book.ensures at c.is_expired.ensures) c.if-is_expired.true c.drop_both.ensures.1)))
 
 pub returns-in-Refused : goal.returns-in-Refused
 returns-in-Refused c =
@@ -48,4 +48,4 @@ returns-else-is_expired c =
     let limits = limits_in_lem ns c.book_in-book.ensures (length c.args.words.now) c.limits.ensures c.in-Done.is in
     let w : get_or ns 11 0 < 2 ^ 64 = omega (arith, c.slice_known-1.given 11) in
     let got = rw c.book_in-book.ensures at c.get-got.ensures in
-    changing twelve (rw c.store_list.ensures (stay_lru ns _)) (rw c.answering-in-Done.ensures (told_in_lem c.store_list.new.0 (rw c.store_list.ensures (sym (lru_stored ns _ twelve got.capacity))) (follow_got _ (book_in ns) _ limits w (rw c.book_in-book.ensures at c.is_expired.ensures) c.if-is_expired.false got c.of_found.ensures)))
+    changing twelve (rw c.store_list.ensures (stay_lru ns _)) (rw c.answering-in-Done.ensures (told_in_lem c.store_list.new.numbers (rw c.store_list.ensures (sym (lru_stored ns _ twelve got.capacity))) (follow_got _ (book_in ns) _ limits w (rw c.book_in-book.ensures at c.is_expired.ensures) c.if-is_expired.false got c.of_found.ensures)))

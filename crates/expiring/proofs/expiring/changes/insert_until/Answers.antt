@@ -14,7 +14,7 @@ pub returns-then-not-is_accepted : goal.returns-then-not-is_accepted
 returns-then-not-is_accepted c =
     let n = sym c.is_accepted.ensures ∙ unfit refl c.if-not-is_accepted.true-raw in
     let o = c.set_deadline-dated.ensures in
-    (o.stay, full_after c.args.numbers.now c.set_deadline-dated.new.0 (o.refused n) (acting_full _ _ (o.dating.refused n) (unset_beyond o.dating n)))
+    (o.stay, full_after c.args.numbers.now c.set_deadline-dated.new.numbers (o.refused n) (acting_full _ _ (o.dating.refused n) (unset_beyond o.dating n)))
 
 pub returns : goal.returns
 returns c =
