@@ -10,8 +10,7 @@ use time::Duration;
 
 // Opens a book in the words, and writes its numbers and an answer. Says 1, or 0 where it did nothing: where there are fewer
 // than twelve numbers, six words of an opening or four words for the answer.
-#[unsafe(no_mangle)]
-pub extern "C" fn expiring_open(
+pub fn expiring_open(
     numbers: &mut [u64],
     words: &mut [u64],
     opening: &[u64],
@@ -53,8 +52,7 @@ fn default_of(given: u64, secs: u64, nanos: u64) -> DefaultDuration
 }
 
 // 1 where words and numbers form a book, otherwise 0.
-#[unsafe(no_mangle)]
-pub extern "C" fn expiring_check(numbers: &[u64], words: &[u64]) -> u64
+pub fn expiring_check(numbers: &[u64], words: &[u64]) -> u64
     ensures { Checked numbers.now words.now result }
 {
     if numbers.len() < 12 {

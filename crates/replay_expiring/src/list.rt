@@ -7,8 +7,7 @@ use crate::{change, look};
 
 // Runs the calls on the words, and on the book's numbers. Says how many calls it ran: as many as have room for an answer and
 // come before the first that is none, or 0 where there are fewer than twelve numbers.
-#[unsafe(no_mangle)]
-pub extern "C" fn expiring_replay(
+pub fn expiring_replay(
     numbers: &mut [u64],
     words: &mut [u64],
     calls: &[u64],

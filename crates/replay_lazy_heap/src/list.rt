@@ -9,8 +9,7 @@ use lazy_heap::LazyMinHeap;
 
 // Runs the calls on the words, and on the heap's numbers. Says how many calls it ran: as many as have room for an answer,
 // or none where there are fewer than six numbers.
-#[unsafe(no_mangle)]
-pub extern "C" fn lazy_heap_replay(
+pub fn lazy_heap_replay(
     numbers: &mut [u64],
     words: &mut [u64],
     calls: &[u64],

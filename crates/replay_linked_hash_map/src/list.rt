@@ -9,8 +9,7 @@ use linked_hash_map::LinkedHashMap;
 
 // Runs the calls on the words, and on the map's numbers. Says how many calls it ran: as many as have room for an answer,
 // or none where there are fewer than three numbers.
-#[unsafe(no_mangle)]
-pub extern "C" fn linked_hash_map_replay(
+pub fn linked_hash_map_replay(
     numbers: &mut [u64],
     words: &mut [u64],
     calls: &[u64],

@@ -1,0 +1,18 @@
+// The map's list of calls for programs in C and Rust: the function of `replay_linked_hash_map`, exported.
+#![tactic(auto)]
+
+ghost use Rattle.replay.specs.Runs.{Replayed};
+ghost use Rattle.replay_linked_hash_map.specs.Numbers.{map_in};
+ghost use Rattle.replay_linked_hash_map.specs.Steps.{Ran};
+
+#[unsafe(no_mangle)]
+pub extern "C" fn linked_hash_map_replay(
+    numbers: &mut [u64],
+    words: &mut [u64],
+    calls: &[u64],
+    answers: &mut [u64],
+) -> u64
+    ensures { Replayed 3 map_in Ran numbers.old words.old calls.now answers.old numbers.new words.new answers.new result }
+{
+    replay_linked_hash_map::linked_hash_map_replay(numbers, words, calls, answers)
+}
