@@ -1,0 +1,13 @@
+use mathlib.Core.Path.{◌≡◌, refl}
+use Prim.Native.Nat.{◌-◌, ◌≤◌}
+use native.Mathlib.Omega.{arith}
+use lib.ListN.{length}
+use borrow.Author.Rules.{rules}
+use Rattle.replay_expiring.specs.Runs.{Run, none, more}
+use Rattle.replay_expiring.proofs.list.run.Given as goal
+
+abbrev pub invariant-loop-i : goal.invariant-loop-i
+invariant-loop-i l = (l.i ≤ l.room) × (length l.numbers ≡ length l.initial.numbers) × (length l.words ≡ length l.initial.words) × (length l.answers ≡ length l.initial.answers) × Run l.calls l.initial.numbers l.initial.words l.initial.answers l.i l.numbers l.words l.answers
+
+abbrev pub decreases-loop-i : goal.decreases-loop-i
+decreases-loop-i l = l.room - l.i
