@@ -1,0 +1,7 @@
+use borrow.Author.Rules.{rules}
+use Rattle.text.proofs.Laws.{puts_then}
+use Rattle.session.proofs.Printing.{line_parts}
+use Rattle.session.proofs.answer.print.Goals as goal
+
+pub returns : goal.returns
+returns c = rw (line_parts _ _) at (puts_then c.head-at.ensures c.tail.ensures)

@@ -1,0 +1,6 @@
+use Rattle.session.proofs.Printing.{told}
+use borrow.Author.Rules.{rules}
+use Rattle.session.proofs.step.told.Goals as goal
+
+pub returns : goal.returns
+returns c = told _ _ c.requires c.print.ensures c.heap_len.ensures c.deadlines_held.ensures c.number_of.ensures c.number_of-2.ensures
