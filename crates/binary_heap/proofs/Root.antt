@@ -6,7 +6,6 @@ use Prim.Native.Nat.{ℕ, zero, suc, ◌<◌, ◌≤◌}
 use native.Mathlib.Omega.{arith}
 use native.Mathlib.Decide.{ℕ_discrete}
 use lib.ListN.{length}
-use Rattle.binary_heap.specs.declared.entries.Entry.{Entry}
 use Rattle.binary_heap.specs.declared.heap.Top.TheVariants as top
 use Rattle.binary_heap.specs.Order.{le, sort}
 use Rattle.binary_heap.specs.Entries.{entry_at, entries_of}

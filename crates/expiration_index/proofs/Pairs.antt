@@ -10,7 +10,6 @@ use lib.ListN.{length, length-append}
 use borrow.Author.Tests.{ne_eqb, eqb-true, eqb-false}
 use Rattle.time.specs.declared.tick.Tick.{Tick}
 use Rattle.time.specs.Deadline.{is_expired_at}
-use Rattle.linked_hash_map.specs.declared.map.Record.{Record}
 use Rattle.linked_hash_map.specs.declared.map.Taken.{Taken}
 use Rattle.linked_hash_map.specs.declared.map.Taken.TheVariants as taken
 use Rattle.linked_hash_map.specs.Model as held

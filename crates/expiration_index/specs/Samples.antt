@@ -12,7 +12,7 @@ use Rattle.expiration_index.specs.declared.answers.Due.{Due}
 use Rattle.expiration_index.specs.declared.answers.Due.TheVariants as due
 use Rattle.expiration_index.specs.declared.answers.Told.{Told}
 use Rattle.expiration_index.specs.declared.answers.Told.TheVariants as told
-use Rattle.expiration_index.specs.Model.{Pair, Pairs, has, without, tell, deadline_of, set, is_full, set_answer, next_due, expired_due, without_expired, expired_count}
+use Rattle.expiration_index.specs.Model.{Pairs, has, without, tell, deadline_of, set, is_full, set_answer, next_due, expired_due, without_expired, expired_count}
 use Rattle.expiration_index.specs.Answers.{tick}
 use Rattle.expiration_index.specs.Index.{factor, deadlines}
 use Rattle.expiration_index.specs.Calls.{popped_expired}

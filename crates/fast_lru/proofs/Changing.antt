@@ -29,7 +29,7 @@ use Rattle.fast_lru_model.specs.declared.answers.Told.TheVariants as told
 use Rattle.fast_lru.specs.declared.answers.Got.{Got}
 use Rattle.fast_lru.specs.declared.answers.Popped.{Popped}
 use Rattle.fast_lru.specs.Refusals.{blank, admitted}
-use Rattle.fast_lru_model.specs.Model.{Item, Items, lookup, value_in, value_of, to_front, tell, last, oldest_of, popped}
+use Rattle.fast_lru_model.specs.Model.{Item, Items, value_in, value_of, to_front, tell, last, oldest_of, popped}
 use Rattle.fast_lru.specs.Lru.{item_of, items, model_of}
 use Rattle.fast_lru.specs.Steps.{nth, taking, is_at, less_item, ValueAt, Picking, Taking, Placing}
 use Rattle.fast_lru.specs.Calls.{Opening, Clearing, Getting, Inserting, Removing, Popping, Touching}

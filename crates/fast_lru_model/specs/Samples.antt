@@ -8,7 +8,7 @@ use Rattle.fast_lru_model.specs.declared.answers.Rank.{Rank}
 use Rattle.fast_lru_model.specs.declared.answers.Rank.TheVariants as rank
 use Rattle.fast_lru_model.specs.declared.answers.Told.{Told}
 use Rattle.fast_lru_model.specs.declared.answers.Told.TheVariants as told
-use Rattle.fast_lru_model.specs.Model.{Item, Items, has, without, tell, value_of, to_front, inserted, oldest_of, popped, rank_of}
+use Rattle.fast_lru_model.specs.Model.{Items, has, without, tell, value_of, to_front, inserted, oldest_of, popped, rank_of}
 
 pub data Call : Type 0 where
   len : Call

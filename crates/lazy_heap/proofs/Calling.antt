@@ -11,7 +11,6 @@ use Rattle.rings.proofs.Counts.{by_lt}
 use Rattle.binary_heap.specs.Heap as array
 use Rattle.binary_heap.proofs.Laws.{heap_none, model_none}
 use Rattle.binary_heap.proofs.Laws.{model_length as array-length}
-use Rattle.linked_hash_map.specs.declared.map.Record.{Record}
 use Rattle.linked_hash_map.specs.declared.map.Opened as mapOpened
 use Rattle.linked_hash_map.specs.declared.map.Removed.{Removed}
 use Rattle.linked_hash_map.specs.declared.map.Taken.{Taken}

@@ -21,7 +21,7 @@ use Rattle.linked_hash_map.proofs.Laws.{place_taken, place_below, place_key, map
 use Rattle.linked_hash_map.proofs.Putting.{model_length}
 use Rattle.lazy_heap.specs.declared.heap.LazyMinHeap.{LazyMinHeap}
 use Rattle.lazy_heap.specs.Words.{part}
-use Rattle.lazy_heap.specs.Heap.{model_of, Parts, IsHeap}
+use Rattle.lazy_heap.specs.Heap.{Parts, IsHeap}
 use Rattle.lazy_heap.specs.Walks.{Blank, Tallying, RecordsValid, Sound, Agreeing}
 use Rattle.lazy_heap.specs.Calls.{Checking}
 

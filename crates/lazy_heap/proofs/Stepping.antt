@@ -24,7 +24,6 @@ use Rattle.linked_hash_map.specs.declared.map.Taken.TheVariants as taken
 use Rattle.linked_hash_map.specs.Model as scores
 use Rattle.linked_hash_map.specs.Map as map
 use Rattle.linked_hash_map.specs.Calls.{Putting}
-use Rattle.linked_hash_map.proofs.Laws.{held}
 use Rattle.linked_hash_map.proofs.Putting.{model_length}
 use Rattle.lazy_heap.specs.declared.heap.LazyMinHeap.{LazyMinHeap}
 use Rattle.lazy_heap.specs.declared.heap.Stored.{Stored}

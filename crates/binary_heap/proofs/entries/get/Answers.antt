@@ -1,5 +1,4 @@
 use mathlib.Core.Path.{refl}
-use borrow.Author.Rules.{rules}
 use Rattle.binary_heap.specs.Entries.{entry_at}
 use Rattle.binary_heap.proofs.entries.get.Goals as goal
 

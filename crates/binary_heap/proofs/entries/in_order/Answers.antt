@@ -1,4 +1,3 @@
-use borrow.Author.Rules.{rules}
 use Rattle.binary_heap.specs.Entries.{entry_at}
 use Rattle.binary_heap.proofs.Order.{by_score}
 use Rattle.binary_heap.proofs.entries.in_order.Goals as goal

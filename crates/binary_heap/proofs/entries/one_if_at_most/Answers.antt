@@ -1,5 +1,4 @@
 use native.Mathlib.Omega.{arith}
-use borrow.Author.Rules.{rules}
 use Rattle.binary_heap.specs.Entries.{entry_at}
 use Rattle.binary_heap.proofs.Counting.{one_at_most, none_above}
 use Rattle.binary_heap.proofs.entries.one_if_at_most.Goals as goal

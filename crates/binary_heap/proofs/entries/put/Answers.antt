@@ -1,7 +1,6 @@
 use mathlib.Core.Path.{refl}
 use native.Mathlib.Omega.{arith}
 use lib.ListN.{length-set}
-use borrow.Author.Rules.{rules}
 use Rattle.binary_heap.specs.Entries.{put_at}
 use Rattle.binary_heap.proofs.entries.put.Goals as goal
 

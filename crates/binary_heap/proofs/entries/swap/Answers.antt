@@ -1,4 +1,3 @@
-use borrow.Author.Rules.{rules}
 use Rattle.binary_heap.specs.Entries.{swap_at}
 use Rattle.binary_heap.proofs.entries.swap.Goals as goal
 

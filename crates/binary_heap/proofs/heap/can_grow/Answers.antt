@@ -1,6 +1,5 @@
 use Prim.Native.Nat.{◌+◌}
 use native.Mathlib.Omega.{arith}
-use borrow.Author.Rules.{rules}
 use borrow.Author.Tests.{lt-leb}
 use Rattle.binary_heap.specs.Heap.{fit}
 use Rattle.binary_heap.proofs.heap.can_grow.Goals as goal

@@ -1,9 +1,7 @@
 -- The entries before i are counted.
-use Prim.Native.Nat.{◌-◌}
 use native.Mathlib.Omega.{arith}
-use borrow.Author.Rules.{rules}
 use Rattle.binary_heap.proofs.Limits.{unfit, fitting, is_room}
-use Rattle.binary_heap.proofs.Counting.{Counted, at_most_one, counted_none, counted_next, counting_refused, counting_done}
+use Rattle.binary_heap.proofs.Counting.{at_most_one, counted_none, counted_next, counting_refused, counting_done}
 use Rattle.binary_heap.proofs.heap.count_at_most.Goals as goal
 
 pub returns-then-not-in_limits : goal.returns-then-not-in_limits

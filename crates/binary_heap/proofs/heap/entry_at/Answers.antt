@@ -1,7 +1,6 @@
 use mathlib.Core.Path.{refl, sym, ◌∙◌}
 use mathlib.Core.Bool.{true≢false}
 use native.Mathlib.Omega.{arith}
-use borrow.Author.Rules.{rules}
 use Rattle.binary_heap.proofs.Limits.{unfit, fitting, is_room}
 use Rattle.binary_heap.proofs.heap.entry_at.Goals as goal
 

@@ -1,5 +1,4 @@
 use native.Mathlib.Omega.{arith}
-use borrow.Author.Rules.{rules}
 use borrow.Author.Tests.{le-leb, lt-leb}
 use Rattle.binary_heap.specs.Heap.{fit}
 use Rattle.binary_heap.proofs.heap.in_limits.Goals as goal

@@ -1,5 +1,4 @@
 use native.Mathlib.Omega.{arith}
-use borrow.Author.Rules.{rules}
 use Rattle.binary_heap.proofs.Limits.{unfit, fitting, is_room}
 use Rattle.binary_heap.proofs.Root.{peeking_refused, peeking_none, peeking_root}
 use Rattle.binary_heap.proofs.heap.peek.Goals as goal

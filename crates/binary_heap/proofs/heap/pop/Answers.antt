@@ -1,5 +1,4 @@
 use native.Mathlib.Omega.{arith}
-use borrow.Author.Rules.{rules}
 use Rattle.binary_heap.proofs.Limits.{unfit, fitting, is_room}
 use Rattle.binary_heap.proofs.Popping.{popping_refused, popping_none, popping_root}
 use Rattle.binary_heap.proofs.heap.pop.Goals as goal

@@ -1,5 +1,4 @@
 use native.Mathlib.Omega.{arith}
-use borrow.Author.Rules.{rules}
 use Rattle.binary_heap.proofs.Limits.{unfit, fitting, is_room}
 use Rattle.binary_heap.proofs.Pushing.{pushing_refused, pushing_done}
 use Rattle.binary_heap.proofs.heap.push.Goals as goal

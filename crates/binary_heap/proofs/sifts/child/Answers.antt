@@ -1,4 +1,3 @@
-use borrow.Author.Rules.{rules}
 use borrow.Author.Tests.{le-leb, lt-leb}
 use Rattle.binary_heap.specs.Sifts.{child_of}
 use Rattle.binary_heap.proofs.sifts.child.Goals as goal

@@ -1,6 +1,5 @@
 use mathlib.Core.Path.{sym, ap}
 use mathlib.Core.Bool.{not}
-use borrow.Author.Rules.{rules}
 use Rattle.binary_heap.proofs.Rising.{root_in_order}
 use Rattle.binary_heap.proofs.sifts.rises.Goals as goal
 

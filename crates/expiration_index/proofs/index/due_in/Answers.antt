@@ -1,4 +1,3 @@
-use borrow.Author.Rules.{rules}
 use Rattle.expiration_index.proofs.index.due_in.Goals as goal
 
 pub returns-in-Pair : goal.returns-in-Pair

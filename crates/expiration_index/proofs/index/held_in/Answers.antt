@@ -1,4 +1,3 @@
-use borrow.Author.Rules.{rules}
 use Rattle.expiration_index.proofs.index.held_in.Goals as goal
 
 pub returns-in-Refused : goal.returns-in-Refused

@@ -1,5 +1,4 @@
 use mathlib.Core.Path.{◌∙◌}
-use borrow.Author.Rules.{rules}
 use borrow.Author.Tests.{not-true, not-false}
 use Rattle.forms.proofs.Pieces.{no_capacity, no_limit, no_seq, book_ended, book_unended}
 use Rattle.forms.proofs.form.book.Goals as goal

@@ -1,4 +1,3 @@
-use borrow.Author.Rules.{rules}
 use borrow.Author.Tests.{not-true, not-false}
 use Rattle.forms.proofs.Pieces.{book_no_secs, book_no_nanos, book_timed, book_untimed}
 use Rattle.forms.proofs.form.book_with_ttl.Goals as goal

@@ -1,6 +1,5 @@
 -- The first letter leaves one call, or none.
 use mathlib.Core.Path.{refl, sym, ◌∙◌}
-use borrow.Author.Rules.{rules}
 use Rattle.forms.specs.Reading.{by_letter}
 use Rattle.forms.proofs.Wholes.{no_call, lettered, no_letter}
 use Rattle.forms.proofs.form.call_at.Goals as goal

@@ -1,5 +1,4 @@
 use mathlib.Core.Path.{refl}
-use borrow.Author.Rules.{rules}
 use Rattle.forms.specs.Reading.{get_in}
 use Rattle.forms.proofs.Wholes.{fits, unfit}
 use Rattle.forms.proofs.form.get.Goals as goal

@@ -1,5 +1,4 @@
 use mathlib.Core.Path.{refl}
-use borrow.Author.Rules.{rules}
 use Rattle.text.specs.Text.{bytes}
 use Rattle.forms.specs.Reading.{live_in}
 use Rattle.forms.proofs.Wholes.{ended, unended}

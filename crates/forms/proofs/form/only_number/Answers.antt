@@ -1,5 +1,3 @@
-use borrow.Author.Rules.{rules}
-use borrow.Author.Tests.{not-true, not-false}
 use Rattle.forms.proofs.Wholes.{only_ended, only_unended}
 use Rattle.forms.proofs.form.only_number.Goals as goal
 

@@ -1,7 +1,6 @@
 -- What the steps come to is what the line spells.
 use mathlib.Core.Path.{sym, ◌∙◌}
 use native.Mathlib.Omega.{arith}
-use borrow.Author.Rules.{rules}
 use borrow.Author.Tests.{not-true, not-false}
 use Rattle.forms.proofs.Wholes.{long_line, no_tick, book_line, call_line}
 use Rattle.forms.proofs.Spellings.{parsed}

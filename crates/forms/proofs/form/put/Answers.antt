@@ -1,5 +1,4 @@
 use mathlib.Core.Path.{◌∙◌}
-use borrow.Author.Rules.{rules}
 use borrow.Author.Tests.{not-true, not-false}
 use Rattle.forms.proofs.Pieces.{put_no_value, put_ended, put_unended}
 use Rattle.forms.proofs.form.put.Goals as goal

@@ -1,5 +1,4 @@
 use mathlib.Core.Path.{refl, sym, ◌∙◌}
-use borrow.Author.Rules.{rules}
 use Rattle.text.specs.Text.{bytes}
 use Rattle.text.proofs.Laws.{field_none}
 use Rattle.forms.specs.Reading.{put_in}

@@ -1,4 +1,3 @@
-use borrow.Author.Rules.{rules}
 use borrow.Author.Tests.{not-true, not-false}
 use Rattle.forms.proofs.Pieces.{put_no_secs, put_no_nanos, put_timed, put_untimed}
 use Rattle.forms.proofs.form.put_with_ttl.Goals as goal

@@ -1,5 +1,4 @@
 use mathlib.Core.Path.{refl}
-use borrow.Author.Rules.{rules}
 use Rattle.forms.specs.Reading.{status_in}
 use Rattle.forms.proofs.Wholes.{fits, unfit}
 use Rattle.forms.proofs.form.status.Goals as goal

@@ -1,4 +1,3 @@
-use borrow.Author.Rules.{rules}
 use borrow.Author.Tests.{not-true, not-false}
 use Rattle.forms.proofs.Pieces.{ttl_no_key, ttl_no_secs, ttl_no_nanos, ttl_ended, ttl_unended}
 use Rattle.forms.proofs.form.ttl.Goals as goal

@@ -1,4 +1,3 @@
-use borrow.Author.Rules.{rules}
 use Rattle.lazy_heap.proofs.heap.best_of.Goals as goal
 
 pub returns-in-Entry : goal.returns-in-Entry

@@ -1,4 +1,3 @@
-use borrow.Author.Rules.{rules}
 use Rattle.lazy_heap.proofs.heap.is_over.Goals as goal
 
 pub returns-in-Free : goal.returns-in-Free

@@ -1,5 +1,4 @@
 use borrow.Author.Tests.{lt-ltb, le-ltb}
-use borrow.Author.Rules.{rules}
 use Rattle.lazy_heap.specs.Steps.{after}
 use Rattle.lazy_heap.proofs.heap.number_after.Goals as goal
 

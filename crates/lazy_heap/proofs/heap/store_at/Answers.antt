@@ -1,5 +1,4 @@
 use mathlib.Core.Path.{refl, sym, ◌∙◌}
-use borrow.Author.Rules.{rules}
 use Rattle.linked_hash_map.proofs.Places.{put_over, put_full, put_refused}
 use Rattle.lazy_heap.proofs.heap.store_at.Goals as goal
 

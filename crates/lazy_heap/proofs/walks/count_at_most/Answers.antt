@@ -1,6 +1,5 @@
 use native.Mathlib.Omega.{arith}
-use borrow.Author.Rules.{rules}
-use Rattle.lazy_heap.proofs.Downward.{Counting, at_most_one, counting_start, counting_on, counting_none, counting_end}
+use Rattle.lazy_heap.proofs.Downward.{at_most_one, counting_start, counting_on, counting_none, counting_end}
 use Rattle.lazy_heap.proofs.walks.count_at_most.Goals as goal
 
 pub returns-then-scores : goal.returns-then-scores

@@ -1,6 +1,5 @@
 use mathlib.Core.Path.{sym, ◌∙◌}
 use borrow.Author.Tests.{eq-eqb, ne_eqb}
-use borrow.Author.Rules.{rules}
 use Rattle.lazy_heap.proofs.Settling.{slot_nothing, slot_refused, live_none, live_score, live_seq, living_at, living_none}
 use Rattle.lazy_heap.proofs.walks.live_slot.Goals as goal
 

@@ -1,6 +1,5 @@
 use mathlib.Core.Path.{sym, ◌∙◌}
-use borrow.Author.Rules.{rules}
-use Rattle.lazy_heap.proofs.Downward.{Descending, descending_start, descending_stop, descending_unseen, descending_on, descending_end}
+use Rattle.lazy_heap.proofs.Downward.{descending_start, descending_stop, descending_unseen, descending_on, descending_end}
 use Rattle.lazy_heap.proofs.walks.records_valid.Goals as goal
 
 pub loop-left-init : goal.loop-left-init

@@ -1,6 +1,4 @@
-use mathlib.Core.Path.{sym, ◌∙◌}
-use borrow.Author.Rules.{rules}
-use Rattle.lazy_heap.proofs.Downward.{Descending, descending_start, descending_stop, descending_unseen, descending_on, descending_end}
+use Rattle.lazy_heap.proofs.Downward.{Descending}
 use Rattle.lazy_heap.proofs.walks.records_valid.Given as goal
 
 abbrev pub invariant-loop-left : goal.invariant-loop-left

@@ -1,6 +1,5 @@
 use mathlib.Core.Path.{sym, ap, ◌∙◌}
 use lib.Seq.{set_out}
-use borrow.Author.Rules.{rules}
 use Rattle.lazy_heap.specs.Walks.{seen}
 use Rattle.lazy_heap.proofs.walks.see.Goals as goal
 

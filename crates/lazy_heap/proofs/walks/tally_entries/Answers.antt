@@ -1,6 +1,4 @@
-use Prim.Native.Nat.{◌-◌}
-use borrow.Author.Rules.{rules}
-use Rattle.lazy_heap.proofs.Tallies.{Tally, tally_start, tally_stop, tally_on, tally_end, entry_read}
+use Rattle.lazy_heap.proofs.Tallies.{tally_start, tally_stop, tally_on, tally_end, entry_read}
 use Rattle.lazy_heap.proofs.walks.tally_entries.Goals as goal
 
 pub loop-i-init : goal.loop-i-init

@@ -1,6 +1,5 @@
 use Prim.Native.Nat.{◌-◌}
-use borrow.Author.Rules.{rules}
-use Rattle.lazy_heap.proofs.Tallies.{Tally, tally_start, tally_stop, tally_on, tally_end, entry_read}
+use Rattle.lazy_heap.proofs.Tallies.{Tally}
 use Rattle.lazy_heap.proofs.walks.tally_entries.Given as goal
 
 abbrev pub invariant-loop-i : goal.invariant-loop-i

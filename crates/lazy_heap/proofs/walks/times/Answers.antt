@@ -1,6 +1,5 @@
 use mathlib.Core.Path.{sym}
 use lib.ListN.{get_or-eq_default}
-use borrow.Author.Rules.{rules}
 use Rattle.lazy_heap.proofs.walks.times.Goals as goal
 
 pub returns-else-s-tally : goal.returns-else-s-tally

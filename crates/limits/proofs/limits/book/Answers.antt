@@ -1,6 +1,5 @@
 use borrow.Author.Tests.{eq-eqb, ne_eqb, lt-ltb, le-ltb}
 use Rattle.limits.specs.Limits.{book_limits}
-use borrow.Author.Rules.{rules}
 use Rattle.limits.proofs.limits.book.Goals as goal
 
 pub returns-then-capacity-gt4096 : goal.returns-then-capacity-gt4096

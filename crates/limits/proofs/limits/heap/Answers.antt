@@ -1,5 +1,4 @@
 use borrow.Author.Tests.{eq-eqb, ne_eqb, lt-ltb, le-ltb}
-use borrow.Author.Rules.{rules}
 use Rattle.limits.specs.Limits.{heap_limits}
 use Rattle.limits.proofs.limits.heap.Goals as goal
 

@@ -1,5 +1,4 @@
 use mathlib.Core.Path.{refl, sym, ◌∙◌}
-use borrow.Author.Rules.{rules}
 use Rattle.linked_hash_map.specs.Checks.{finds_of}
 use Rattle.linked_hash_map.proofs.check.finds.Goals as goal
 

@@ -1,9 +1,5 @@
 -- What is left to find says what the whole search does.
-use mathlib.Core.Path.{◌≡◌, refl, sym, ◌∙◌}
-use borrow.Author.Rules.{rules}
-use borrow.Author.Tests.{not-true, not-false}
-use Rattle.rings.specs.Ring.{next}
-use Rattle.linked_hash_map.specs.Checks.{finds_all}
+use mathlib.Core.Path.{refl, sym, ◌∙◌}
 use Rattle.linked_hash_map.proofs.Steps.{finds_end, finds_past, finds_lost, finds_on}
 use Rattle.linked_hash_map.proofs.check.finds_all.Goals as goal
 

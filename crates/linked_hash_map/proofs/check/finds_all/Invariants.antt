@@ -1,9 +1,6 @@
-use mathlib.Core.Path.{◌≡◌, refl, sym, ◌∙◌}
-use borrow.Author.Rules.{rules}
-use borrow.Author.Tests.{not-true, not-false}
+use mathlib.Core.Path.{◌≡◌}
 use Rattle.rings.specs.Ring.{next}
 use Rattle.linked_hash_map.specs.Checks.{finds_all}
-use Rattle.linked_hash_map.proofs.Steps.{finds_end, finds_past, finds_lost, finds_on}
 use Rattle.linked_hash_map.proofs.check.finds_all.Given as goal
 
 abbrev pub invariant-loop-left : goal.invariant-loop-left

@@ -1,12 +1,7 @@
 -- A turn adds what the cell adds to the records held.
 use mathlib.Core.Path.{◌≡◌, sym}
-use mathlib.Core.Logic.{⊎_elim}
-use Prim.Native.Nat.{◌-◌, ◌≤◌}
 use native.Mathlib.Omega.{arith}
-use lib.ListN.{length}
-use borrow.Author.Rules.{rules}
 use Rattle.cells.specs.Cells.{cell_count}
-use Rattle.cells.specs.Index.{held_in}
 use Rattle.cells.proofs.Held.{count_none, count_one, count_free, count_tomb}
 use Rattle.linked_hash_map.proofs.check.held.Goals as goal
 use Rattle.linked_hash_map.proofs.check.held.Goals.{then-v-ge1+then-v-n, then-v-ge1+else-v-n, else-v-ge1}
@@ -18,9 +13,9 @@ pub loop-p-preserved : goal.loop-p-preserved
 loop-p-preserved c =
     let v = c.cell-v.ensures in
     elim c.if-v-ge1.branch [
-      then-v-ge1+then-v-n w ↦ omega (arith, count_one _ _ _ (rw v at w.if-v-ge1.true) (rw v at w.if-v-n.true))
-    | then-v-ge1+else-v-n w ↦ omega (arith, count_tomb _ _ _ (rw v at w.if-v-ge1.true) (rw v at w.if-v-n.false))
-    | else-v-ge1 w ↦ omega (arith, count_free _ _ _ (rw v at w.if-v-ge1.false))
+      | then-v-ge1+then-v-n w ↦ omega (arith, count_one _ _ _ (rw v at w.if-v-ge1.true) (rw v at w.if-v-n.true))
+      | then-v-ge1+else-v-n w ↦ omega (arith, count_tomb _ _ _ (rw v at w.if-v-ge1.true) (rw v at w.if-v-n.false))
+      | else-v-ge1 w ↦ omega (arith, count_free _ _ _ (rw v at w.if-v-ge1.false))
     ]
 
 pub returns : goal.returns

@@ -1,12 +1,7 @@
-use mathlib.Core.Path.{◌≡◌, sym}
-use mathlib.Core.Logic.{⊎_elim}
+use mathlib.Core.Path.{◌≡◌}
 use Prim.Native.Nat.{◌-◌, ◌≤◌}
-use native.Mathlib.Omega.{arith}
 use lib.ListN.{length}
-use borrow.Author.Rules.{rules}
-use Rattle.cells.specs.Cells.{cell_count}
 use Rattle.cells.specs.Index.{held_in}
-use Rattle.cells.proofs.Held.{count_none, count_one, count_free, count_tomb}
 use Rattle.linked_hash_map.proofs.check.held.Given as goal
 
 abbrev pub invariant-loop-p : goal.invariant-loop-p

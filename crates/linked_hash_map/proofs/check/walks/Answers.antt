@@ -1,10 +1,7 @@
 -- What is left to walk says what the whole walk does.
-use mathlib.Core.Path.{◌≡◌, refl, sym, ◌∙◌}
-use Prim.Native.Nat.{◌+◌, ◌<◌}
+use mathlib.Core.Path.{refl, sym, ◌∙◌}
 use native.Mathlib.Omega.{arith}
-use borrow.Author.Rules.{rules}
 use borrow.Author.Tests.{eq-eqb, ne_eqb}
-use Rattle.rings.specs.Ring.{walks}
 use Rattle.rings.proofs.Walks.{walks_end, walks_past, walks_one_way, walks_on}
 use Rattle.linked_hash_map.proofs.check.walks.Goals as goal
 

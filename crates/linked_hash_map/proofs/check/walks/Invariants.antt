@@ -1,10 +1,6 @@
-use mathlib.Core.Path.{◌≡◌, refl, sym, ◌∙◌}
+use mathlib.Core.Path.{◌≡◌}
 use Prim.Native.Nat.{◌+◌, ◌<◌}
-use native.Mathlib.Omega.{arith}
-use borrow.Author.Rules.{rules}
-use borrow.Author.Tests.{eq-eqb, ne_eqb}
 use Rattle.rings.specs.Ring.{walks}
-use Rattle.rings.proofs.Walks.{walks_end, walks_past, walks_one_way, walks_on}
 use Rattle.linked_hash_map.proofs.check.walks.Given as goal
 
 abbrev pub invariant-loop-left : goal.invariant-loop-left

@@ -1,6 +1,5 @@
 -- A shift is a division by a power of two.
 use mathlib.Core.Path.{refl}
-use borrow.Author.Rules.{rules}
 use Rattle.cells.specs.Cells.{weight, cell_at}
 use Rattle.linked_hash_map.proofs.index.cell.Goals as goal
 

@@ -1,10 +1,7 @@
 -- A turn is a step of `zeroed`.
-use mathlib.Core.Path.{◌≡◌, refl, sym, ◌∙◌}
-use Prim.Native.Nat.{◌+◌, ◌-◌, ◌≤◌}
+use mathlib.Core.Path.{refl, sym, ◌∙◌}
 use native.Mathlib.Omega.{arith}
-use lib.ListN.{length, length-set}
-use borrow.Author.Rules.{rules}
-use Rattle.cells.specs.Cells.{zeroed}
+use lib.ListN.{length-set}
 use Rattle.cells.proofs.Clearing.{zero_start, zero_turn, zero_end}
 use Rattle.linked_hash_map.proofs.index.clear_cells.Goals as goal
 

@@ -1,10 +1,7 @@
-use mathlib.Core.Path.{◌≡◌, refl, sym, ◌∙◌}
+use mathlib.Core.Path.{◌≡◌}
 use Prim.Native.Nat.{◌+◌, ◌-◌, ◌≤◌}
-use native.Mathlib.Omega.{arith}
-use lib.ListN.{length, length-set}
-use borrow.Author.Rules.{rules}
+use lib.ListN.{length}
 use Rattle.cells.specs.Cells.{zeroed}
-use Rattle.cells.proofs.Clearing.{zero_start, zero_turn, zero_end}
 use Rattle.linked_hash_map.proofs.index.clear_cells.Given as goal
 
 abbrev pub invariant-loop-i : goal.invariant-loop-i

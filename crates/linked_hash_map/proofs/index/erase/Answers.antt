@@ -1,7 +1,6 @@
 -- The mark is that of the definition, by the test of the cell after p.
 use mathlib.Core.Path.{◌≡◌, refl, ◌∙◌}
 use mathlib.Core.Bool.{Bool, true, false, cond}
-use mathlib.Core.Logic.{⊎_elim}
 use Prim.Native.Nat.{ℕ, ◌<◌}
 use native.Mathlib.Omega.{arith}
 use lib.Dec.{eqb}
@@ -30,12 +29,12 @@ pub set_cell-requires : goal.set_cell-requires
 unfolding erased
 set_cell-requires c =
     let mark : c.if-v-eq0.mark ≡ cond (eqb c.cell-v.result 0) 0 tombstone =
-        elim c.if-v-eq0.branch [ then-v-eq0 w ↦ marked w.if-v-eq0.true w.mark-is | else-v-eq0 w ↦ unmarked w.if-v-eq0.false w.mark-is ] in
+    elim c.if-v-eq0.branch [ then-v-eq0 w ↦ marked w.if-v-eq0.true w.mark-is | else-v-eq0 w ↦ unmarked w.if-v-eq0.false w.mark-is ] in
     (search rules, search rules, rw mark (small (eqb c.cell-v.result 0)))
 
 pub returns : goal.returns
 unfolding erased
 returns c =
     let mark : c.if-v-eq0.mark ≡ cond (eqb c.cell-v.result 0) 0 tombstone =
-        elim c.if-v-eq0.branch [ then-v-eq0 w ↦ marked w.if-v-eq0.true w.mark-is | else-v-eq0 w ↦ unmarked w.if-v-eq0.false w.mark-is ] in
+    elim c.if-v-eq0.branch [ then-v-eq0 w ↦ marked w.if-v-eq0.true w.mark-is | else-v-eq0 w ↦ unmarked w.if-v-eq0.false w.mark-is ] in
     rw (← c.after.ensures, ← c.cell-v.ensures) (rw mark at c.set_cell.ensures)

@@ -1,9 +1,5 @@
 -- A turn is a step of `probe_from`, whose fuel is the cells left.
-use mathlib.Core.Path.{◌≡◌, sym, ◌∙◌}
-use mathlib.Core.Logic.{⊎_elim}
-use Prim.Native.Nat.{◌<◌}
-use borrow.Author.Rules.{rules}
-use Rattle.cells.specs.Probe.{probe_from, probe}
+use mathlib.Core.Path.{sym, ◌∙◌}
 use Rattle.cells.proofs.Probing.{home_lt, after_lt, from_home, on_had, on_new, on_mine, turn_miss, turn_had, turn_new, out_had, out_full}
 use Rattle.linked_hash_map.proofs.index.probe.Goals as goal
 use Rattle.linked_hash_map.proofs.index.probe.Goals.{then-v-n+else-words-s, else-v-n+then-count-free, else-v-n+else-count-free}
@@ -31,9 +27,9 @@ loop-left-preserved c =
     let (within, so_far) = c.loop-left.invariant in (
       rw next (after_lt _ _ within),
       elim c.if-v-n.branch [
-        then-v-n+else-words-s w ↦ turn_miss _ _ _ _ _ _ more _ _ _ next so_far w.free-is used (rw v at w.if-v-n.true) (rw v at w.if-words-s.false)
-      | else-v-n+then-count-free w ↦ turn_new _ _ _ _ _ _ more _ _ _ next so_far w.free-is used (rw v at w.if-v-n.false) w.if-count-free.true
-      | else-v-n+else-count-free w ↦ turn_had _ _ _ _ _ _ more _ _ _ next so_far w.free-is used (rw v at w.if-v-n.false) w.if-count-free.false
+        | then-v-n+else-words-s w ↦ turn_miss _ _ _ _ _ _ more _ _ _ next so_far w.free-is used (rw v at w.if-v-n.true) (rw v at w.if-words-s.false)
+        | else-v-n+then-count-free w ↦ turn_new _ _ _ _ _ _ more _ _ _ next so_far w.free-is used (rw v at w.if-v-n.false) w.if-count-free.true
+        | else-v-n+else-count-free w ↦ turn_had _ _ _ _ _ _ more _ _ _ next so_far w.free-is used (rw v at w.if-v-n.false) w.if-count-free.false
       ],
     )
 

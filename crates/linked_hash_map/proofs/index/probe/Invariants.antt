@@ -1,9 +1,6 @@
-use mathlib.Core.Path.{◌≡◌, sym, ◌∙◌}
-use mathlib.Core.Logic.{⊎_elim}
+use mathlib.Core.Path.{◌≡◌}
 use Prim.Native.Nat.{◌<◌}
-use borrow.Author.Rules.{rules}
 use Rattle.cells.specs.Probe.{probe_from, probe}
-use Rattle.cells.proofs.Probing.{home_lt, after_lt, from_home, on_had, on_new, on_mine, turn_miss, turn_had, turn_new, out_had, out_full}
 use Rattle.linked_hash_map.proofs.index.probe.Given as goal
 
 abbrev pub invariant-loop-left : goal.invariant-loop-left

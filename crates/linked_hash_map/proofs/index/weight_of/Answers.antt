@@ -5,7 +5,6 @@ use native.Mathlib.Nat.{one-mul}
 use native.Mathlib.Omega.{arith}
 use lib.Dec.{lit<}
 use lib.Pow.{shl_exact}
-use borrow.Author.Rules.{rules}
 use Rattle.cells.specs.Cells.{weight}
 use Rattle.linked_hash_map.proofs.index.weight_of.Goals as goal
 

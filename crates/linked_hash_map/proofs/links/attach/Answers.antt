@@ -1,4 +1,3 @@
-use borrow.Author.Rules.{rules}
 use Rattle.rings.specs.Ring.{attached}
 use Rattle.linked_hash_map.proofs.links.attach.Goals as goal
 

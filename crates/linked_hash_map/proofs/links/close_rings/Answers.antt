@@ -1,4 +1,3 @@
-use borrow.Author.Rules.{rules}
 use Rattle.linked_hash_map.proofs.links.close_rings.Goals as goal
 
 pub returns : goal.returns

@@ -1,7 +1,6 @@
 -- Each way out has the tests that led there.
 use native.Mathlib.Omega.{arith}
 use lib.ListN.{length-set}
-use borrow.Author.Rules.{rules}
 use borrow.Author.Tests.{lt-ltb, le-ltb}
 use Rattle.rings.specs.Ring.{linked, joined}
 use Rattle.linked_hash_map.proofs.links.join.Goals as goal

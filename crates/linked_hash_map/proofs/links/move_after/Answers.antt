@@ -1,4 +1,3 @@
-use borrow.Author.Rules.{rules}
 use Rattle.rings.specs.Ring.{moved}
 use Rattle.linked_hash_map.proofs.links.move_after.Goals as goal
 

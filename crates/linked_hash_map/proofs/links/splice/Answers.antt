@@ -1,5 +1,4 @@
 -- Each way out has the test that led there.
-use borrow.Author.Rules.{rules}
 use borrow.Author.Tests.{eq-eqb, ne_eqb}
 use Rattle.rings.specs.Ring.{spliced}
 use Rattle.linked_hash_map.proofs.links.splice.Goals as goal

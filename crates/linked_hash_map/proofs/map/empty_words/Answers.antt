@@ -1,10 +1,9 @@
 -- A turn is a step of `filled`.
 use mathlib.Core.Path.{◌≡◌, refl, sym, ◌∙◌}
-use Prim.Native.Nat.{◌-◌, ◌≤◌}
+use Prim.Native.Nat.{◌-◌}
 use native.Mathlib.Omega.{arith}
-use lib.ListN.{length}
 use borrow.Author.Rules.{rules}
-use Rattle.linked_hash_map.specs.Words.{filled, emptied}
+use Rattle.linked_hash_map.specs.Words.{emptied}
 use Rattle.linked_hash_map.proofs.Steps.{filled_on, filled_end}
 use Rattle.linked_hash_map.proofs.map.empty_words.Goals as goal
 

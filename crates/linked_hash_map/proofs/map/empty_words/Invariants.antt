@@ -1,10 +1,7 @@
-use mathlib.Core.Path.{◌≡◌, refl, sym, ◌∙◌}
+use mathlib.Core.Path.{◌≡◌}
 use Prim.Native.Nat.{◌-◌, ◌≤◌}
-use native.Mathlib.Omega.{arith}
 use lib.ListN.{length}
-use borrow.Author.Rules.{rules}
-use Rattle.linked_hash_map.specs.Words.{filled, emptied}
-use Rattle.linked_hash_map.proofs.Steps.{filled_on, filled_end}
+use Rattle.linked_hash_map.specs.Words.{filled}
 use Rattle.linked_hash_map.proofs.map.empty_words.Given as goal
 
 abbrev pub invariant-loop-i : goal.invariant-loop-i

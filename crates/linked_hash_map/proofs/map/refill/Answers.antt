@@ -1,9 +1,7 @@
 -- What is left to enter makes of the words what the whole refill does.
-use mathlib.Core.Path.{◌≡◌, refl, sym, ◌∙◌}
-use lib.ListN.{length}
+use mathlib.Core.Path.{refl, sym, ◌∙◌}
 use borrow.Author.Rules.{rules}
-use Rattle.rings.specs.Ring.{next}
-use Rattle.linked_hash_map.specs.Words.{entered_from, refilled}
+use Rattle.linked_hash_map.specs.Words.{refilled}
 use Rattle.linked_hash_map.proofs.Steps.{entered_end, entered_past, entered_on}
 use Rattle.linked_hash_map.proofs.map.refill.Goals as goal
 

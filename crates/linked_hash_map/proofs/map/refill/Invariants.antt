@@ -1,9 +1,7 @@
-use mathlib.Core.Path.{◌≡◌, refl, sym, ◌∙◌}
+use mathlib.Core.Path.{◌≡◌}
 use lib.ListN.{length}
-use borrow.Author.Rules.{rules}
 use Rattle.rings.specs.Ring.{next}
-use Rattle.linked_hash_map.specs.Words.{entered_from, refilled}
-use Rattle.linked_hash_map.proofs.Steps.{entered_end, entered_past, entered_on}
+use Rattle.linked_hash_map.specs.Words.{entered_from}
 use Rattle.linked_hash_map.proofs.map.refill.Given as goal
 
 abbrev pub invariant-loop-left : goal.invariant-loop-left

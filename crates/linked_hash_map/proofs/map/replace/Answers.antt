@@ -1,4 +1,3 @@
-use borrow.Author.Rules.{rules}
 use Rattle.linked_hash_map.specs.Words.{replaced}
 use Rattle.linked_hash_map.proofs.map.replace.Goals as goal
 

@@ -1,4 +1,3 @@
-use borrow.Author.Rules.{rules}
 use Rattle.linked_hash_map.specs.Words.{taken_out}
 use Rattle.linked_hash_map.proofs.map.take.Goals as goal
 

@@ -1,6 +1,5 @@
 use native.Mathlib.Omega.{arith}
 use lib.ListN.{length-set}
-use borrow.Author.Rules.{rules}
 use Rattle.linked_hash_map.specs.Words.{written}
 use Rattle.linked_hash_map.proofs.map.write_record.Goals as goal
 

@@ -1,7 +1,6 @@
 -- A store keeps the length, and the four stores are those of `with_answer`.
 use native.Mathlib.Omega.{arith}
 use lib.ListN.{length-set}
-use borrow.Author.Rules.{rules}
 use Rattle.replay.specs.Runs.{with_answer}
 use Rattle.replay.proofs.call.store_answer.Goals as goal
 

@@ -1,5 +1,4 @@
 -- Each arm is the case of `of_found` that the match found.
-use borrow.Author.Rules.{rules}
 use Rattle.replay_fast_lru.proofs.answer.of_found.Goals as goal
 
 pub returns-in-Value : goal.returns-in-Value

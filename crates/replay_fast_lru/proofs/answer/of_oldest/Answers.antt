@@ -1,5 +1,4 @@
 -- Each arm is the case of `of_oldest` that the match found.
-use borrow.Author.Rules.{rules}
 use Rattle.replay_fast_lru.proofs.answer.of_oldest.Goals as goal
 
 pub returns-in-Item : goal.returns-in-Item

@@ -1,5 +1,4 @@
 -- Each arm is the case of `of_rank` that the match found.
-use borrow.Author.Rules.{rules}
 use Rattle.replay_fast_lru.proofs.answer.of_rank.Goals as goal
 
 pub returns-in-At : goal.returns-in-At

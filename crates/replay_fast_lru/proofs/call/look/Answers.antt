@@ -1,6 +1,5 @@
 -- Each arm is the step of its operation, with what the list's call ensures. The last arm's operation is 10, since it is
 -- below 11, has no loop of its own and is none of the others.
-use borrow.Author.Rules.{rules}
 use Rattle.replay_fast_lru.specs.Steps.{contained, peeked_oldest, ranked}
 use Rattle.replay_fast_lru.proofs.Onward.{ten}
 use Rattle.replay_fast_lru.proofs.call.look.Goals as goal

@@ -1,5 +1,4 @@
 -- The answer is what `of_oldest` ensures.
-use borrow.Author.Rules.{rules}
 use Rattle.replay_fast_lru.proofs.call.popped.Goals as goal
 
 pub returns : goal.returns

@@ -1,7 +1,6 @@
 -- Each arm is the step of its operation, with what the list's call ensures. The last arm's operation is 14, since it is
 -- below 15 and none of the others.
 use native.Mathlib.Omega.{arith}
-use borrow.Author.Rules.{rules}
 use Rattle.replay_fast_lru.specs.Steps.{counted, asked_empty, asked_capacity, checked}
 use Rattle.replay_fast_lru.proofs.call.read.Goals as goal
 

@@ -1,6 +1,5 @@
 -- Each group of operations says which step it is. Any other operation is above 14.
 use native.Mathlib.Omega.{arith}
-use borrow.Author.Rules.{rules}
 use Rattle.replay_fast_lru.specs.Steps.{other}
 use Rattle.replay_fast_lru.proofs.call.step.Goals as goal
 

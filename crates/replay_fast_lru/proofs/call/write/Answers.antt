@@ -1,6 +1,5 @@
 -- Each arm is the step of its operation, with what the list's call ensures. The last arm's operation is 5, since it is
 -- below 7, has no loop of its own and is none of the others.
-use borrow.Author.Rules.{rules}
 use Rattle.replay_fast_lru.specs.Steps.{opened, cleared, removed, popped}
 use Rattle.replay_fast_lru.proofs.Onward.{above, five}
 use Rattle.replay_fast_lru.proofs.call.write.Goals as goal

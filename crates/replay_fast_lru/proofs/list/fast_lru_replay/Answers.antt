@@ -1,7 +1,6 @@
 -- The numbers that are read back are those that were stored.
 use mathlib.Core.Path.{refl}
 use native.Mathlib.Omega.{arith}
-use borrow.Author.Rules.{rules}
 use Rattle.replay_linked_hash_map.proofs.Laws.{map_stored, map_past}
 use Rattle.replay_fast_lru.proofs.list.fast_lru_replay.Goals as goal
 

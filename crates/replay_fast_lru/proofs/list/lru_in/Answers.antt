@@ -1,5 +1,4 @@
 -- The numbers are those that `map_in` read.
-use borrow.Author.Rules.{rules}
 use Rattle.replay_fast_lru.proofs.list.lru_in.Goals as goal
 
 pub returns : goal.returns

@@ -1,9 +1,7 @@
-use mathlib.Core.Path.{◌≡◌, refl, ◌∙◌}
+use mathlib.Core.Path.{◌≡◌}
 use Prim.Native.Nat.{◌-◌, ◌≤◌}
-use native.Mathlib.Omega.{arith}
 use lib.ListN.{length}
-use borrow.Author.Rules.{rules}
-use Rattle.replay.specs.Runs.{Run, none}
+use Rattle.replay.specs.Runs.{Run}
 use Rattle.replay_fast_lru.specs.Steps.{Ran}
 use Rattle.replay_fast_lru.proofs.list.run.Given as goal
 

@@ -1,7 +1,6 @@
-use Prim.Native.Nat.{◌-◌}
 use native.Mathlib.Omega.{arith}
 use borrow.Author.Rules.{rules}
-use Rattle.replay_fast_lru.specs.Steps.{gotten, Onward}
+use Rattle.replay_fast_lru.specs.Steps.{gotten}
 use Rattle.replay_fast_lru.proofs.Onward.{on_start, on_stop, on_more}
 use Rattle.replay_fast_lru.proofs.runs.gets.Goals as goal
 

@@ -1,5 +1,4 @@
 -- Each arm is the case of `of_best` that the match found.
-use borrow.Author.Rules.{rules}
 use Rattle.replay_lazy_heap.proofs.answer.of_best.Goals as goal
 
 pub returns-in-Pair : goal.returns-in-Pair

@@ -1,5 +1,4 @@
 -- Each arm is the case of `of_flag` that the match found.
-use borrow.Author.Rules.{rules}
 use Rattle.replay_lazy_heap.proofs.answer.of_flag.Goals as goal
 
 pub returns-in-Refused : goal.returns-in-Refused

@@ -1,5 +1,4 @@
 -- Each arm is the case of `of_number` that the match found.
-use borrow.Author.Rules.{rules}
 use Rattle.replay_lazy_heap.proofs.answer.of_number.Goals as goal
 
 pub returns-in-Value : goal.returns-in-Value

@@ -1,7 +1,6 @@
 -- Each arm is the step of its operation, with what the heap's call ensures. The last arm's operation is 16, since it is
 -- below 17 and none of the others.
 use native.Mathlib.Omega.{arith}
-use borrow.Author.Rules.{rules}
 use Rattle.replay_lazy_heap.specs.Steps.{factored, scored, counted, asked_empty, entries_counted, checked, counted_at_most}
 use Rattle.replay_lazy_heap.proofs.call.read.Goals as goal
 

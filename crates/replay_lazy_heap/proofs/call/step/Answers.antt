@@ -1,6 +1,5 @@
 -- Each group of operations says which step it is. Any other operation is above 16.
 use native.Mathlib.Omega.{arith}
-use borrow.Author.Rules.{rules}
 use Rattle.replay_lazy_heap.specs.Steps.{other}
 use Rattle.replay_lazy_heap.proofs.call.step.Goals as goal
 

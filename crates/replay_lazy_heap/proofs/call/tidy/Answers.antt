@@ -1,7 +1,6 @@
 -- Each arm is the step of its operation, with what the heap's call ensures. The last arm's operation is 9, since it is
 -- below 10 and none of the others.
 use native.Mathlib.Omega.{arith}
-use borrow.Author.Rules.{rules}
 use Rattle.replay_lazy_heap.specs.Steps.{rebuilt, maybe_rebuilt, renumbered, cleared}
 use Rattle.replay_lazy_heap.proofs.call.tidy.Goals as goal
 

@@ -1,7 +1,6 @@
 -- Each arm is the step of its operation, with what the heap's call ensures. The last arm's operation is 5, since it is
 -- below 6 and none of the others.
 use native.Mathlib.Omega.{arith}
-use borrow.Author.Rules.{rules}
 use Rattle.replay_lazy_heap.specs.Steps.{opened, reset, updated, removed, popped, peeked}
 use Rattle.replay_lazy_heap.proofs.call.write.Goals as goal
 

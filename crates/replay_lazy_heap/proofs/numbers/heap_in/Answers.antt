@@ -1,5 +1,4 @@
 -- The first three numbers are those that `map_in` read.
-use borrow.Author.Rules.{rules}
 use Rattle.replay_lazy_heap.proofs.numbers.heap_in.Goals as goal
 
 pub returns : goal.returns

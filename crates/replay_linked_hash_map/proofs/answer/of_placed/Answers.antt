@@ -1,5 +1,4 @@
 -- Each arm is the case of `of_placed` that the match found.
-use borrow.Author.Rules.{rules}
 use Rattle.replay_linked_hash_map.proofs.answer.of_placed.Goals as goal
 
 pub returns-in-Replaced : goal.returns-in-Replaced

@@ -1,5 +1,4 @@
 -- Each arm is the case of `of_slot` that the match found.
-use borrow.Author.Rules.{rules}
 use Rattle.replay_linked_hash_map.proofs.answer.of_slot.Goals as goal
 
 pub returns-in-At : goal.returns-in-At

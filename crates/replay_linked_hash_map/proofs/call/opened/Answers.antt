@@ -1,5 +1,4 @@
 -- The answer is what `of_bool` ensures.
-use borrow.Author.Rules.{rules}
 use Rattle.replay_linked_hash_map.proofs.call.opened.Goals as goal
 
 pub returns : goal.returns

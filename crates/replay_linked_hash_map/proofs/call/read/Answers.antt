@@ -1,7 +1,6 @@
 -- Each arm is the step of its operation, with what the map's call ensures. The last arm's operation is 12, since it is
 -- below 13 and none of the others.
 use native.Mathlib.Omega.{arith}
-use borrow.Author.Rules.{rules}
 use Rattle.replay_linked_hash_map.specs.Steps.{found, recorded, first, last, next, previous, checked}
 use Rattle.replay_linked_hash_map.proofs.call.read.Goals as goal
 

@@ -1,5 +1,4 @@
 -- The answer is what `of_taken` ensures.
-use borrow.Author.Rules.{rules}
 use Rattle.replay_linked_hash_map.proofs.call.removed.Goals as goal
 
 pub returns : goal.returns

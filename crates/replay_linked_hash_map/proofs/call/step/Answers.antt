@@ -1,6 +1,5 @@
 -- Writers and readers say which step they are. Any other operation is above 12.
 use native.Mathlib.Omega.{arith}
-use borrow.Author.Rules.{rules}
 use Rattle.replay_linked_hash_map.specs.Steps.{other}
 use Rattle.replay_linked_hash_map.proofs.call.step.Goals as goal
 

@@ -1,7 +1,6 @@
 -- Each arm is the step of its operation, with what the map's call ensures. The last arm's operation is 5, since it is
 -- below 6 and none of the others.
 use native.Mathlib.Omega.{arith}
-use borrow.Author.Rules.{rules}
 use Rattle.replay_linked_hash_map.specs.Steps.{opened, cleared, touched, written, put, removed}
 use Rattle.replay_linked_hash_map.proofs.call.write.Goals as goal
 

@@ -1,10 +1,6 @@
 -- What is read from the place reached on, with the value so far, is what the whole is.
-use mathlib.Core.Path.{◌≡◌, sym, ◌∙◌}
-use Prim.Native.Nat.{◌-◌, ◌<◌, ◌≤◌, ◌^◌}
+use mathlib.Core.Path.{sym, ◌∙◌}
 use native.Mathlib.Omega.{arith}
-use borrow.Author.Rules.{rules}
-use lib.ListN.{length, drop}
-use Rattle.text.specs.Reading.{read_on}
 use Rattle.text.proofs.Places.{none_on, is_digit_lem, below_digits, above_digits, on_end, on_other, on_over, on_digit}
 use Rattle.text.proofs.number.digits_from.Goals as goal
 

@@ -1,10 +1,7 @@
-use mathlib.Core.Path.{◌≡◌, sym, ◌∙◌}
+use mathlib.Core.Path.{◌≡◌}
 use Prim.Native.Nat.{◌-◌, ◌<◌, ◌≤◌, ◌^◌}
-use native.Mathlib.Omega.{arith}
-use borrow.Author.Rules.{rules}
 use lib.ListN.{length, drop}
 use Rattle.text.specs.Reading.{read_on}
-use Rattle.text.proofs.Places.{none_on, is_digit_lem, below_digits, above_digits, on_end, on_other, on_over, on_digit}
 use Rattle.text.proofs.number.digits_from.Given as goal
 
 abbrev pub invariant-loop-i : goal.invariant-loop-i

@@ -1,7 +1,6 @@
 -- The first byte settles it, but for the digits that go on.
 use mathlib.Core.Path.{sym, ◌∙◌}
 use native.Mathlib.Omega.{arith}
-use borrow.Author.Rules.{rules}
 use Rattle.text.proofs.Places.{is_digit_lem, below_digits, above_digits, at_end, at_other, at_zero, at_digit, none_at}
 use Rattle.text.proofs.number.number_at.Goals as goal
 

@@ -1,5 +1,3 @@
-use borrow.Author.Rules.{rules}
-use borrow.Author.Tests.{not-true, not-false}
 use Rattle.text.proofs.Formats.{ends_not, ends_past, ends_here}
 use Rattle.text.proofs.reader.ends.Goals as goal
 

@@ -1,5 +1,3 @@
-use borrow.Author.Rules.{rules}
-use borrow.Author.Tests.{not-true, not-false}
 use Rattle.text.proofs.Formats.{after_past, after_not, after_text}
 use Rattle.text.proofs.reader.number_after.Goals as goal
 

@@ -1,11 +1,8 @@
 -- The rest of the text stands at the place reached, or not, as the whole does at its place.
-use mathlib.Core.Path.{◌≡◌, refl, sym, ◌∙◌}
-use Prim.Native.Nat.{◌+◌, ◌-◌, ◌≤◌}
+use mathlib.Core.Path.{refl, sym, ◌∙◌}
 use native.Mathlib.Nat.{add-zero}
 use native.Mathlib.Omega.{arith}
-use borrow.Author.Rules.{rules}
-use lib.ListN.{length, length-drop, drop}
-use Rattle.text.specs.Reading.{read_text}
+use lib.ListN.{length-drop}
 use Rattle.text.proofs.Formats.{starts_past, starts_not, starts_all, text_short, byte_off, byte_on, text_whole}
 use Rattle.text.proofs.reader.starts.Goals as goal
 

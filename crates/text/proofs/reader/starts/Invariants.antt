@@ -1,11 +1,7 @@
-use mathlib.Core.Path.{◌≡◌, refl, sym, ◌∙◌}
+use mathlib.Core.Path.{◌≡◌}
 use Prim.Native.Nat.{◌+◌, ◌-◌, ◌≤◌}
-use native.Mathlib.Nat.{add-zero}
-use native.Mathlib.Omega.{arith}
-use borrow.Author.Rules.{rules}
-use lib.ListN.{length, length-drop, drop}
+use lib.ListN.{length, drop}
 use Rattle.text.specs.Reading.{read_text}
-use Rattle.text.proofs.Formats.{starts_past, starts_not, starts_all, text_short, byte_off, byte_on, text_whole}
 use Rattle.text.proofs.reader.starts.Given as goal
 
 abbrev pub invariant-loop-i : goal.invariant-loop-i

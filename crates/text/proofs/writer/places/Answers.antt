@@ -1,7 +1,7 @@
 -- A turn counts the last digit of what is left.
 use native.Mathlib.Omega.{arith}
 use borrow.Author.Rules.{rules}
-use Rattle.text.proofs.Decimals.{Counted, counts, counts_on}
+use Rattle.text.proofs.Decimals.{counts, counts_on}
 use Rattle.text.proofs.writer.places.Goals as goal
 
 pub loop-rest-init : goal.loop-rest-init

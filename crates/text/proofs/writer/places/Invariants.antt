@@ -1,6 +1,4 @@
-use native.Mathlib.Omega.{arith}
-use borrow.Author.Rules.{rules}
-use Rattle.text.proofs.Decimals.{Counted, counts, counts_on}
+use Rattle.text.proofs.Decimals.{Counted}
 use Rattle.text.proofs.writer.places.Given as goal
 
 abbrev pub invariant-loop-rest : goal.invariant-loop-rest

@@ -1,11 +1,8 @@
 -- The rest of the text makes of the slice what the whole does.
-use mathlib.Core.Path.{◌≡◌, refl, sym, ◌∙◌}
-use Prim.Native.Nat.{◌+◌, ◌-◌, ◌≤◌}
+use mathlib.Core.Path.{refl, sym, ◌∙◌}
 use native.Mathlib.Nat.{add-zero}
 use native.Mathlib.Omega.{arith}
-use borrow.Author.Rules.{rules}
-use lib.ListN.{length, length-set, drop}
-use lib.Seq.{sets}
+use lib.ListN.{length-set}
 use Rattle.text.proofs.Stores.{no_room, byte_on, puts_text}
 use Rattle.text.proofs.writer.put.Goals as goal
 

@@ -1,11 +1,7 @@
-use mathlib.Core.Path.{◌≡◌, refl, sym, ◌∙◌}
+use mathlib.Core.Path.{◌≡◌}
 use Prim.Native.Nat.{◌+◌, ◌-◌, ◌≤◌}
-use native.Mathlib.Nat.{add-zero}
-use native.Mathlib.Omega.{arith}
-use borrow.Author.Rules.{rules}
-use lib.ListN.{length, length-set, drop}
+use lib.ListN.{length, drop}
 use lib.Seq.{sets}
-use Rattle.text.proofs.Stores.{no_room, byte_on, puts_text}
 use Rattle.text.proofs.writer.put.Given as goal
 
 abbrev pub invariant-loop-i : goal.invariant-loop-i

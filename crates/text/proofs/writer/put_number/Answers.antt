@@ -1,6 +1,5 @@
 -- A digit, or the last digits, as many as the number has: they are all of it.
 use native.Mathlib.Omega.{arith}
-use borrow.Author.Rules.{rules}
 use Rattle.text.proofs.Decimals.{size_pos}
 use Rattle.text.proofs.Stores.{no_room, puts_digit, puts_number}
 use Rattle.text.proofs.writer.put_number.Goals as goal

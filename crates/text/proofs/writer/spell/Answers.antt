@@ -1,11 +1,8 @@
 -- The digits that are left make of the slice what the whole number does.
 use mathlib.Core.Path.{◌≡◌, refl, sym, ◌∙◌}
-use Prim.Native.Nat.{◌+◌, ◌-◌, ◌≤◌}
+use Prim.Native.Nat.{◌+◌, ◌-◌}
 use native.Mathlib.Omega.{arith}
-use borrow.Author.Rules.{rules}
-use lib.ListN.{length, length-set}
-use lib.Seq.{sets}
-use Rattle.text.specs.Writing.{last_digits}
+use lib.ListN.{length-set}
 use Rattle.text.proofs.Stores.{digit_first, no_digit}
 use Rattle.text.proofs.writer.spell.Goals as goal
 

@@ -1,11 +1,8 @@
-use mathlib.Core.Path.{◌≡◌, refl, sym, ◌∙◌}
+use mathlib.Core.Path.{◌≡◌}
 use Prim.Native.Nat.{◌+◌, ◌-◌, ◌≤◌}
-use native.Mathlib.Omega.{arith}
-use borrow.Author.Rules.{rules}
-use lib.ListN.{length, length-set}
+use lib.ListN.{length}
 use lib.Seq.{sets}
 use Rattle.text.specs.Writing.{last_digits}
-use Rattle.text.proofs.Stores.{digit_first, no_digit}
 use Rattle.text.proofs.writer.spell.Given as goal
 
 abbrev pub invariant-loop-i : goal.invariant-loop-i

@@ -1,5 +1,5 @@
 -- Each return is the definition's case that the test chose.
-use Rattle.std.proofs.Common.{rules, le-ltb, lt-ltb}
+use Rattle.std.proofs.Common.{le-ltb, lt-ltb}
 use Rattle.time.specs.Duration.{is_duration, ticks_of}
 use Rattle.time.proofs.duration.duration_to_ticks.Goals as goal
 

@@ -1,4 +1,3 @@
-use borrow.Author.Rules.{rules}
 use Rattle.expiration_index.proofs.Calling.{checking, checking_not}
 use Rattle.expiration_index.proofs.index.ExpirationIndex.check.Goals as goal
 

@@ -1,4 +1,3 @@
-use borrow.Author.Rules.{rules}
 use Rattle.expiration_index.proofs.Calling.{clearing}
 use Rattle.expiration_index.proofs.index.ExpirationIndex.clear.Goals as goal
 

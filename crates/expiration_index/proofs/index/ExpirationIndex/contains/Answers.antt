@@ -1,4 +1,3 @@
-use borrow.Author.Rules.{rules}
 use Rattle.expiration_index.proofs.Calling.{containing}
 use Rattle.expiration_index.proofs.index.ExpirationIndex.contains.Goals as goal
 

@@ -1,4 +1,3 @@
-use borrow.Author.Rules.{rules}
 use Rattle.expiration_index.proofs.Calling.{deadline_told}
 use Rattle.expiration_index.proofs.index.ExpirationIndex.deadline_of.Goals as goal
 

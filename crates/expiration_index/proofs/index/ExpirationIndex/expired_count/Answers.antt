@@ -1,4 +1,3 @@
-use borrow.Author.Rules.{rules}
 use Rattle.expiration_index.proofs.Calling.{expired_asked}
 use Rattle.expiration_index.proofs.index.ExpirationIndex.expired_count.Goals as goal
 

@@ -1,4 +1,3 @@
-use borrow.Author.Rules.{rules}
 use Rattle.expiration_index.proofs.Calling.{emptiness}
 use Rattle.expiration_index.proofs.index.ExpirationIndex.is_empty.Goals as goal
 

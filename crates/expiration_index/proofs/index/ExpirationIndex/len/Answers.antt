@@ -1,4 +1,3 @@
-use borrow.Author.Rules.{rules}
 use Rattle.expiration_index.proofs.Calling.{length_asked}
 use Rattle.expiration_index.proofs.index.ExpirationIndex.len.Goals as goal
 

@@ -1,4 +1,3 @@
-use borrow.Author.Rules.{rules}
 use Rattle.expiration_index.proofs.Calling.{looking}
 use Rattle.expiration_index.proofs.index.ExpirationIndex.next_deadline.Goals as goal
 

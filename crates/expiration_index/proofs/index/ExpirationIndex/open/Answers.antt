@@ -1,4 +1,3 @@
-use borrow.Author.Rules.{rules}
 use Rattle.expiration_index.proofs.Calling.{opening}
 use Rattle.expiration_index.proofs.index.ExpirationIndex.open.Goals as goal
 

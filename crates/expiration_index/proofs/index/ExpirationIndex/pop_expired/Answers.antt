@@ -1,4 +1,3 @@
-use borrow.Author.Rules.{rules}
 use Rattle.expiration_index.proofs.Calling.{popping}
 use Rattle.expiration_index.proofs.index.ExpirationIndex.pop_expired.Goals as goal
 

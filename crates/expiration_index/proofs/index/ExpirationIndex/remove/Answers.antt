@@ -1,4 +1,3 @@
-use borrow.Author.Rules.{rules}
 use Rattle.expiration_index.proofs.Calling.{removing}
 use Rattle.expiration_index.proofs.index.ExpirationIndex.remove.Goals as goal
 

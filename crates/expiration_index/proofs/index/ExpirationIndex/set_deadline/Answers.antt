@@ -1,5 +1,4 @@
 use native.Mathlib.Omega.{arith}
-use borrow.Author.Rules.{rules}
 use Rattle.expiration_index.proofs.Calling.{setting}
 use Rattle.expiration_index.proofs.index.ExpirationIndex.set_deadline.Goals as goal
 

@@ -1,5 +1,4 @@
 use mathlib.Core.Path.{sym, ◌∙◌}
-use borrow.Author.Rules.{rules}
 use Rattle.fast_lru.proofs.Limits.{admitted_out, admitted_in}
 use Rattle.fast_lru.proofs.lru.FastLru.admitted.Goals as goal
 

@@ -1,5 +1,4 @@
 use mathlib.Core.Path.{sym, ◌∙◌}
-use borrow.Author.Rules.{rules}
 use Rattle.fast_lru.proofs.Reading.{checking_refused, checking}
 use Rattle.fast_lru.proofs.lru.FastLru.check.Goals as goal
 

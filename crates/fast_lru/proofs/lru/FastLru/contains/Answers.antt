@@ -1,5 +1,4 @@
 use mathlib.Core.Path.{sym, ◌∙◌}
-use borrow.Author.Rules.{rules}
 use Rattle.fast_lru.proofs.Reading.{containing_refused, containing}
 use Rattle.fast_lru.proofs.lru.FastLru.contains.Goals as goal
 

@@ -1,6 +1,5 @@
 -- The touched item stands in front, so what its slot holds is the key's value.
 use mathlib.Core.Path.{sym, ◌∙◌}
-use borrow.Author.Rules.{rules}
 use Rattle.fast_lru.proofs.Changing.{getting_refused, getting}
 use Rattle.fast_lru.proofs.lru.FastLru.get.Goals as goal
 

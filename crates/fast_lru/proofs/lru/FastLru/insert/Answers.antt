@@ -1,5 +1,4 @@
 use mathlib.Core.Path.{sym, ◌∙◌}
-use borrow.Author.Rules.{rules}
 use Rattle.fast_lru.proofs.Changing.{inserting_refused, inserting}
 use Rattle.fast_lru.proofs.lru.FastLru.insert.Goals as goal
 

@@ -1,5 +1,4 @@
 use mathlib.Core.Path.{sym, ◌∙◌}
-use borrow.Author.Rules.{rules}
 use Rattle.fast_lru.proofs.Reading.{emptiness_refused, emptiness_yes, emptiness_no}
 use Rattle.fast_lru.proofs.lru.FastLru.is_empty.Goals as goal
 

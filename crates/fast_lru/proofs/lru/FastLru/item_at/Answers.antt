@@ -1,4 +1,3 @@
-use borrow.Author.Rules.{rules}
 use Rattle.fast_lru.proofs.Slots.{nothing_bare, refused_bare, item_at, item_at_none}
 use Rattle.fast_lru.proofs.lru.FastLru.item_at.Goals as goal
 

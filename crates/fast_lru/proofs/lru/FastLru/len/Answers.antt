@@ -1,5 +1,4 @@
 use mathlib.Core.Path.{sym, ◌∙◌}
-use borrow.Author.Rules.{rules}
 use Rattle.fast_lru.proofs.Reading.{length_refused, length_told}
 use Rattle.fast_lru.proofs.lru.FastLru.len.Goals as goal
 

@@ -1,5 +1,4 @@
 use mathlib.Core.Path.{sym, ◌∙◌}
-use borrow.Author.Rules.{rules}
 use Rattle.fast_lru.proofs.Changing.{opening_refused, opening_done}
 use Rattle.fast_lru.proofs.lru.FastLru.new.Goals as goal
 

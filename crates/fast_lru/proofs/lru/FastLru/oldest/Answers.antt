@@ -1,5 +1,4 @@
 -- The last place is that of the last item.
-use borrow.Author.Rules.{rules}
 use Rattle.fast_lru.proofs.Slots.{picking}
 use Rattle.fast_lru.proofs.lru.FastLru.oldest.Goals as goal
 

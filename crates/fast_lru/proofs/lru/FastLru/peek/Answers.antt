@@ -1,5 +1,4 @@
 use mathlib.Core.Path.{sym, ◌∙◌}
-use borrow.Author.Rules.{rules}
 use Rattle.fast_lru.proofs.Reading.{peeking_refused, peeking}
 use Rattle.fast_lru.proofs.lru.FastLru.peek.Goals as goal
 

@@ -1,5 +1,4 @@
 use mathlib.Core.Path.{sym, ◌∙◌}
-use borrow.Author.Rules.{rules}
 use Rattle.fast_lru.proofs.Reading.{oldest_refused, peeking_oldest}
 use Rattle.fast_lru.proofs.lru.FastLru.peek_lru.Goals as goal
 

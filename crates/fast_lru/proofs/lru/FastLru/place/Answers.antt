@@ -1,6 +1,5 @@
 -- What the map does at the place is what its `put` does.
 use mathlib.Core.Path.{refl, sym, ◌∙◌}
-use borrow.Author.Rules.{rules}
 use Rattle.linked_hash_map.proofs.Places.{put_over, full_no_map, refused_no_map}
 use Rattle.fast_lru.proofs.Placing.{placing_new, placing_over, placing_evicting, placing_none}
 use Rattle.fast_lru.proofs.lru.FastLru.place.Goals as goal

@@ -1,5 +1,4 @@
 -- The new key takes the victim's place; a list with no victim is empty.
-use borrow.Author.Rules.{rules}
 use Rattle.fast_lru.proofs.Placing.{nothing_not_item, refused_not_item, placing_nothing, placing_full}
 use Rattle.fast_lru.proofs.lru.FastLru.place_evicting.Goals as goal
 

@@ -1,5 +1,4 @@
 use mathlib.Core.Path.{sym, ◌∙◌}
-use borrow.Author.Rules.{rules}
 use Rattle.fast_lru.proofs.Changing.{popping_refused, popping}
 use Rattle.fast_lru.proofs.lru.FastLru.pop_lru.Goals as goal
 

@@ -1,13 +1,10 @@
 -- On a map the walks stand at the items of ranks `rank` and `end - 1`, and no item outside them has the key. (`g` is the
 -- place where neither of the two slots is the key's.)
 use mathlib.Core.Path.{◌≡◌}
-use Prim.Native.Nat.{ℕ, ◌-◌, ◌≤◌}
+use Prim.Native.Nat.{ℕ}
 use native.Mathlib.Omega.{arith}
-use borrow.Author.Rules.{rules}
-use Rattle.linked_hash_map.specs.declared.map.Slot.TheVariants.{At}
-use Rattle.linked_hash_map.specs.Map.{IsMap, slot_of, slot_at}
 use Rattle.fast_lru.proofs.Slots.{nothing_bare, refused_bare}
-use Rattle.fast_lru.proofs.Reading.{Walks, rank_never, walks_begin, walks_met, rank_found, front_end, back_end, walks_on}
+use Rattle.fast_lru.proofs.Reading.{rank_never, walks_begin, walks_met, rank_found, front_end, back_end, walks_on}
 use Rattle.fast_lru.proofs.lru.FastLru.rank_between.Goals as goal
 
 pub returns-then-map : goal.returns-then-map

@@ -1,11 +1,8 @@
 use mathlib.Core.Path.{◌≡◌}
 use Prim.Native.Nat.{ℕ, ◌-◌, ◌≤◌}
-use native.Mathlib.Omega.{arith}
-use borrow.Author.Rules.{rules}
 use Rattle.linked_hash_map.specs.declared.map.Slot.TheVariants.{At}
 use Rattle.linked_hash_map.specs.Map.{IsMap, slot_of, slot_at}
-use Rattle.fast_lru.proofs.Slots.{nothing_bare, refused_bare}
-use Rattle.fast_lru.proofs.Reading.{Walks, rank_never, walks_begin, walks_met, rank_found, front_end, back_end, walks_on}
+use Rattle.fast_lru.proofs.Reading.{Walks}
 use Rattle.fast_lru.proofs.lru.FastLru.rank_between.Given as goal
 
 abbrev pub invariant-loop-rank : goal.invariant-loop-rank

@@ -1,6 +1,5 @@
 -- An empty list has no first item and no last one, and no rank.
 use native.Mathlib.Omega.{arith}
-use borrow.Author.Rules.{rules}
 use Rattle.fast_lru.proofs.Slots.{nothing_bare, refused_bare}
 use Rattle.fast_lru.proofs.Reading.{rank_no_end, rank_ends}
 use Rattle.fast_lru.proofs.lru.FastLru.rank_from_ends.Goals as goal

@@ -1,6 +1,5 @@
 -- A missing key has no rank.
 use mathlib.Core.Path.{ap}
-use borrow.Author.Rules.{rules}
 use Rattle.fast_lru.specs.Steps.{is_at}
 use Rattle.fast_lru.proofs.Reading.{rank_from_lem, rank_missing}
 use Rattle.fast_lru.proofs.lru.FastLru.rank_of.Goals as goal

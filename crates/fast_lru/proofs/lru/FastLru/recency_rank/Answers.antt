@@ -1,5 +1,4 @@
 use mathlib.Core.Path.{sym, ◌∙◌}
-use borrow.Author.Rules.{rules}
 use Rattle.fast_lru.proofs.Reading.{ranking_refused, ranking}
 use Rattle.fast_lru.proofs.lru.FastLru.recency_rank.Goals as goal
 

@@ -1,5 +1,4 @@
 use mathlib.Core.Path.{refl, sym, ◌∙◌}
-use borrow.Author.Rules.{rules}
 use Rattle.linked_hash_map.proofs.Places.{remove_free, remove_full, remove_refused}
 use Rattle.fast_lru.proofs.Changing.{removing_refused, removing}
 use Rattle.fast_lru.proofs.lru.FastLru.remove.Goals as goal

@@ -1,6 +1,5 @@
 -- The map takes the item out by its key; an answer with no item changes nothing.
 use mathlib.Core.Path.{refl}
-use borrow.Author.Rules.{rules}
 use Rattle.fast_lru.proofs.Taking.{taking_item, taking_none}
 use Rattle.fast_lru.proofs.lru.FastLru.take.Goals as goal
 

@@ -1,5 +1,4 @@
 use mathlib.Core.Path.{sym, ◌∙◌}
-use borrow.Author.Rules.{rules}
 use Rattle.fast_lru.proofs.Changing.{touching_refused, touching}
 use Rattle.fast_lru.proofs.lru.FastLru.touch.Goals as goal
 

@@ -1,4 +1,3 @@
-use borrow.Author.Rules.{rules}
 use Rattle.fast_lru.proofs.Slots.{choosing}
 use Rattle.fast_lru.proofs.lru.FastLru.victim.Goals as goal
 

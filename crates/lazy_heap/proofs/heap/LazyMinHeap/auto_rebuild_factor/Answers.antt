@@ -1,5 +1,4 @@
 use mathlib.Core.Path.{refl, sym, ◌∙◌}
-use borrow.Author.Rules.{rules}
 use Rattle.lazy_heap.proofs.Asking.{asking_refused, asking_value}
 use Rattle.lazy_heap.proofs.heap.LazyMinHeap.auto_rebuild_factor.Goals as goal
 

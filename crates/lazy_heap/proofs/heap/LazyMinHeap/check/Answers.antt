@@ -1,6 +1,5 @@
 use mathlib.Core.Path.{sym, ◌∙◌}
 use mathlib.Core.Bool.{true≢false}
-use borrow.Author.Rules.{rules}
 use Rattle.lazy_heap.proofs.Calling.{no_heap_lem, limits_room}
 use Rattle.lazy_heap.proofs.Checks.{no_check, checking}
 use Rattle.lazy_heap.proofs.heap.LazyMinHeap.check.Goals as goal

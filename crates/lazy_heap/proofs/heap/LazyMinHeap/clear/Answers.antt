@@ -1,5 +1,4 @@
 use mathlib.Core.Path.{sym, ◌∙◌}
-use borrow.Author.Rules.{rules}
 use Rattle.lazy_heap.proofs.Calling.{call_refused, clear_call}
 use Rattle.lazy_heap.proofs.heap.LazyMinHeap.clear.Goals as goal
 

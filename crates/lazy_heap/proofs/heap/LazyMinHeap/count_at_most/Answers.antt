@@ -1,5 +1,4 @@
 use mathlib.Core.Path.{sym, ap, ◌∙◌}
-use borrow.Author.Rules.{rules}
 use Rattle.lazy_heap.specs.declared.heap.Number.TheVariants as number
 use Rattle.lazy_heap.proofs.Asking.{asking_refused}
 use Rattle.lazy_heap.proofs.Calling.{limits_room}

@@ -1,4 +1,3 @@
-use borrow.Author.Rules.{rules}
 use Rattle.binary_heap.proofs.Laws.{heap_counted}
 use Rattle.lazy_heap.proofs.heap.LazyMinHeap.count_entries.Goals as goal
 

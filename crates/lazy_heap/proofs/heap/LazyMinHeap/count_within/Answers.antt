@@ -1,6 +1,5 @@
 use mathlib.Core.Path.{sym, ◌∙◌}
 use native.Mathlib.Omega.{arith}
-use borrow.Author.Rules.{rules}
 use Rattle.lazy_heap.proofs.Asking.{none_above, first_above, counting_entries}
 use Rattle.lazy_heap.proofs.Best.{first_none, first_some}
 use Rattle.lazy_heap.proofs.heap.LazyMinHeap.count_within.Goals as goal

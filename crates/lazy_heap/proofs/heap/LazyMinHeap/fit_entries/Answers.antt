@@ -1,4 +1,3 @@
-use borrow.Author.Rules.{rules}
 use Rattle.lazy_heap.proofs.Stepping.{trimming_rebuilt, trimming_same}
 use Rattle.lazy_heap.proofs.heap.LazyMinHeap.fit_entries.Goals as goal
 

@@ -1,5 +1,4 @@
 use native.Mathlib.Omega.{arith}
-use borrow.Author.Rules.{rules}
 use Rattle.lazy_heap.proofs.Stepping.{fitting_renumbered, fitting_same}
 use Rattle.lazy_heap.proofs.heap.LazyMinHeap.fit_number.Goals as goal
 

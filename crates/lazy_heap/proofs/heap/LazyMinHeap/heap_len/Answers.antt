@@ -1,5 +1,4 @@
 use mathlib.Core.Path.{sym, ◌∙◌}
-use borrow.Author.Rules.{rules}
 use Rattle.lazy_heap.proofs.Asking.{asking_refused, asking_heap_len}
 use Rattle.lazy_heap.proofs.heap.LazyMinHeap.heap_len.Goals as goal
 

@@ -1,5 +1,4 @@
 use mathlib.Core.Path.{sym, ap, ◌∙◌}
-use borrow.Author.Rules.{rules}
 use Rattle.lazy_heap.proofs.Settling.{slot_nothing, slot_refused}
 use Rattle.lazy_heap_model.specs.Model.{held_score}
 use Rattle.lazy_heap.proofs.Calling.{room_limits}

@@ -1,4 +1,3 @@
-use borrow.Author.Rules.{rules}
 use Rattle.lazy_heap.proofs.Stepping.{stored_scores, holding}
 use Rattle.lazy_heap.proofs.heap.LazyMinHeap.hold.Goals as goal
 

@@ -1,5 +1,4 @@
 use mathlib.Core.Path.{sym, ◌∙◌}
-use borrow.Author.Rules.{rules}
 use Rattle.lazy_heap.proofs.Asking.{asking_yes, asking_no}
 use Rattle.lazy_heap.proofs.Calling.{no_heap_lem}
 use Rattle.lazy_heap.proofs.heap.LazyMinHeap.is_empty.Goals as goal

@@ -1,5 +1,4 @@
 use mathlib.Core.Path.{sym}
-use borrow.Author.Rules.{rules}
 use Rattle.lazy_heap.proofs.heap.LazyMinHeap.is_live.Goals as goal
 
 pub returns-in-At : goal.returns-in-At

@@ -1,5 +1,4 @@
 use mathlib.Core.Path.{sym, ap, ◌∙◌}
-use borrow.Author.Rules.{rules}
 use Rattle.lazy_heap.specs.Steps.{settled_by}
 use Rattle.lazy_heap.proofs.heap.LazyMinHeap.is_settled.Goals as goal
 

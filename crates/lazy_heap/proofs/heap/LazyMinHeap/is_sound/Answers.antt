@@ -1,7 +1,6 @@
 use mathlib.Core.Path.{refl, sym, ◌∙◌}
 use mathlib.Core.Bool.{true≢false}
 use native.Mathlib.Omega.{arith}
-use borrow.Author.Rules.{rules}
 use Rattle.binary_heap.proofs.Limits.{unfit, fitting}
 use Rattle.lazy_heap.proofs.Checks.{no_parts}
 use Rattle.lazy_heap.proofs.heap.LazyMinHeap.is_sound.Goals as goal

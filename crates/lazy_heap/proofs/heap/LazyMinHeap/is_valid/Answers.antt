@@ -1,5 +1,4 @@
 use mathlib.Core.Path.{refl}
-use borrow.Author.Rules.{rules}
 use Rattle.binary_heap.proofs.Limits.{unfit, fitting}
 use Rattle.lazy_heap.proofs.Checks.{blank, disagreeing, agreeing}
 use Rattle.lazy_heap.proofs.heap.LazyMinHeap.is_valid.Goals as goal

@@ -1,5 +1,4 @@
 use mathlib.Core.Path.{sym, ◌∙◌}
-use borrow.Author.Rules.{rules}
 use Rattle.lazy_heap.proofs.Calling.{with_room_lem, call_refused, maybe_call}
 use Rattle.lazy_heap.proofs.heap.LazyMinHeap.maybe_rebuild.Goals as goal
 

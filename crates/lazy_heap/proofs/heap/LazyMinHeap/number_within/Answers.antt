@@ -1,5 +1,4 @@
-use borrow.Author.Rules.{rules}
-use Rattle.lazy_heap.proofs.Refilling.{Numbering, numbering_start, numbering_on}
+use Rattle.lazy_heap.proofs.Refilling.{numbering_start, numbering_on}
 use Rattle.lazy_heap.proofs.Stepping.{numbering, numbering_none}
 use Rattle.lazy_heap.proofs.heap.LazyMinHeap.number_within.Goals as goal
 

@@ -1,5 +1,4 @@
 use mathlib.Core.Path.{sym, ◌∙◌}
-use borrow.Author.Rules.{rules}
 use Rattle.lazy_heap.proofs.Calling.{open_refused, open_done}
 use Rattle.lazy_heap.proofs.heap.LazyMinHeap.open.Goals as goal
 

@@ -1,4 +1,3 @@
-use borrow.Author.Rules.{rules}
 use Rattle.lazy_heap.proofs.heap.LazyMinHeap.place_after.Goals as goal
 
 pub returns : goal.returns

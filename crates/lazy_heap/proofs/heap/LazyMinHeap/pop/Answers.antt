@@ -1,4 +1,3 @@
-use borrow.Author.Rules.{rules}
 use Rattle.lazy_heap.proofs.Entered.{popping}
 use Rattle.lazy_heap.proofs.heap.LazyMinHeap.pop.Goals as goal
 

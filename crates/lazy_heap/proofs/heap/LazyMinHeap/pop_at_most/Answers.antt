@@ -1,5 +1,4 @@
 use mathlib.Core.Path.{sym, ◌∙◌}
-use borrow.Author.Rules.{rules}
 use Rattle.lazy_heap.proofs.Calling.{no_heap_lem, limits_room, call_refused}
 use Rattle.lazy_heap.proofs.heap.LazyMinHeap.pop_at_most.Goals as goal
 

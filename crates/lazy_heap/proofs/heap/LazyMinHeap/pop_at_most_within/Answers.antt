@@ -1,6 +1,5 @@
 use mathlib.Core.Path.{sym, ap}
 use native.Mathlib.Omega.{arith}
-use borrow.Author.Rules.{rules}
 use Rattle.lazy_heap.specs.Steps.{best_of}
 use Rattle.lazy_heap.proofs.Settling.{settled_as, room_entered}
 use Rattle.lazy_heap.proofs.Calling.{room_limits}

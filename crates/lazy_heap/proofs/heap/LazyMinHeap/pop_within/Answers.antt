@@ -1,4 +1,3 @@
-use borrow.Author.Rules.{rules}
 use Rattle.lazy_heap.proofs.Settling.{settled_as, room_entered}
 use Rattle.lazy_heap.proofs.Calling.{room_limits}
 use Rattle.lazy_heap.proofs.Best.{popping_best, popping_none}

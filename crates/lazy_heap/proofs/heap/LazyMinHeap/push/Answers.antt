@@ -1,4 +1,3 @@
-use borrow.Author.Rules.{rules}
 use Rattle.lazy_heap.proofs.Entered.{pushing}
 use Rattle.lazy_heap.proofs.heap.LazyMinHeap.push.Goals as goal
 

@@ -1,5 +1,4 @@
 use mathlib.Core.Path.{sym, ◌∙◌}
-use borrow.Author.Rules.{rules}
 use Rattle.lazy_heap.proofs.Calling.{limits_room, call_refused, rebuild_call}
 use Rattle.lazy_heap.proofs.heap.LazyMinHeap.rebuild.Goals as goal
 

@@ -1,7 +1,6 @@
 use mathlib.Core.Path.{refl}
-use borrow.Author.Rules.{rules}
 use Rattle.lazy_heap.proofs.Settling.{room_entered}
-use Rattle.lazy_heap.proofs.Refilling.{Refilling, refilling_start, refilling_on}
+use Rattle.lazy_heap.proofs.Refilling.{refilling_start, refilling_on}
 use Rattle.lazy_heap.proofs.Stepping.{rebuilding, rebuilding_none}
 use Rattle.lazy_heap.proofs.heap.LazyMinHeap.rebuild_within.Goals as goal
 

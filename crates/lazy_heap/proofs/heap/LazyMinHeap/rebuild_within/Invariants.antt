@@ -1,8 +1,4 @@
-use mathlib.Core.Path.{refl}
-use borrow.Author.Rules.{rules}
-use Rattle.lazy_heap.proofs.Settling.{room_entered}
-use Rattle.lazy_heap.proofs.Refilling.{Refilling, refilling_start, refilling_on}
-use Rattle.lazy_heap.proofs.Stepping.{rebuilding, rebuilding_none}
+use Rattle.lazy_heap.proofs.Refilling.{Refilling}
 use Rattle.lazy_heap.proofs.heap.LazyMinHeap.rebuild_within.Given as goal
 
 abbrev pub invariant-loop-left : goal.invariant-loop-left

@@ -1,5 +1,4 @@
 use mathlib.Core.Path.{refl, sym, ◌∙◌}
-use borrow.Author.Rules.{rules}
 use Rattle.lazy_heap.proofs.Calling.{no_heap_lem, limits_room, call_refused}
 use Rattle.lazy_heap.proofs.heap.LazyMinHeap.remove.Goals as goal
 

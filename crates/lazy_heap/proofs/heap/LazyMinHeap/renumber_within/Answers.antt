@@ -1,4 +1,3 @@
-use borrow.Author.Rules.{rules}
 use Rattle.lazy_heap.proofs.Stepping.{renumbering}
 use Rattle.lazy_heap.proofs.heap.LazyMinHeap.renumber_within.Goals as goal
 

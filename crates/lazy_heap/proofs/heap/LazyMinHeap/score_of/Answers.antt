@@ -1,5 +1,4 @@
 use mathlib.Core.Path.{sym, ◌∙◌}
-use borrow.Author.Rules.{rules}
 use Rattle.lazy_heap.proofs.Calling.{no_heap_lem, limits_room}
 use Rattle.lazy_heap.proofs.heap.LazyMinHeap.score_of.Goals as goal
 

@@ -1,5 +1,4 @@
 use mathlib.Core.Path.{sym, ◌∙◌}
-use borrow.Author.Rules.{rules}
 use Rattle.lazy_heap.proofs.Calling.{call_refused, factor_call}
 use Rattle.lazy_heap.proofs.heap.LazyMinHeap.set_auto_rebuild.Goals as goal
 

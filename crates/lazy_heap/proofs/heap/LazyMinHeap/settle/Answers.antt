@@ -1,5 +1,4 @@
-use borrow.Author.Rules.{rules}
-use Rattle.lazy_heap.proofs.Settling.{Settling, settling_start, settling_on, settled_top, settled_empty, room_entered}
+use Rattle.lazy_heap.proofs.Settling.{settling_start, settling_on, settled_top, settled_empty, room_entered}
 use Rattle.lazy_heap.proofs.heap.LazyMinHeap.settle.Goals as goal
 
 pub loop-left-init : goal.loop-left-init

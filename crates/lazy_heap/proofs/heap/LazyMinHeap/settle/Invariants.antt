@@ -1,5 +1,4 @@
-use borrow.Author.Rules.{rules}
-use Rattle.lazy_heap.proofs.Settling.{Settling, settling_start, settling_on, settled_top, settled_empty, room_entered}
+use Rattle.lazy_heap.proofs.Settling.{Settling}
 use Rattle.lazy_heap.proofs.heap.LazyMinHeap.settle.Given as goal
 
 abbrev pub invariant-loop-left : goal.invariant-loop-left

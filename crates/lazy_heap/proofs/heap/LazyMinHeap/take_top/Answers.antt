@@ -1,5 +1,4 @@
 use mathlib.Core.Path.{refl, sym, ◌∙◌}
-use borrow.Author.Rules.{rules}
 use Rattle.linked_hash_map.proofs.Places.{remove_free, remove_full, remove_refused}
 use Rattle.lazy_heap.proofs.Best.{taking}
 use Rattle.lazy_heap.proofs.heap.LazyMinHeap.take_top.Goals as goal

@@ -1,4 +1,3 @@
-use borrow.Author.Rules.{rules}
 use Rattle.lazy_heap.proofs.heap.LazyMinHeap.top.Goals as goal
 
 pub returns : goal.returns

@@ -1,5 +1,4 @@
 use mathlib.Core.Path.{sym, ◌∙◌}
-use borrow.Author.Rules.{rules}
 use Rattle.lazy_heap.proofs.Calling.{limits_room}
 use Rattle.lazy_heap.proofs.Updating.{updating_refused}
 use Rattle.lazy_heap.proofs.heap.LazyMinHeap.update.Goals as goal

@@ -1,5 +1,4 @@
 use mathlib.Core.Path.{sym, ◌∙◌}
-use borrow.Author.Rules.{rules}
 use Rattle.lazy_heap.proofs.Calling.{room_limits}
 use Rattle.lazy_heap.proofs.Updating.{over_full, place_kept, updating, updating_full}
 use Rattle.lazy_heap.proofs.heap.LazyMinHeap.update_within.Goals as goal

@@ -1,7 +1,6 @@
 use mathlib.Core.Path.{sym, ◌∙◌}
 use mathlib.Core.Bool.{true≢false}
 use native.Mathlib.Omega.{arith}
-use borrow.Author.Rules.{rules}
 use Rattle.linked_hash_map.proofs.Limits.{no_room, room, is_room}
 use Rattle.linked_hash_map.proofs.Finding.{unfit}
 use Rattle.linked_hash_map.proofs.Checking.{map_walks, map_walks_free, map_finds, checking, checking_no}

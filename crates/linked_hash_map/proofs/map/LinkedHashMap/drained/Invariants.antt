@@ -1,8 +1,4 @@
-use mathlib.Core.Path.{◌≡◌}
-use native.Mathlib.Omega.{arith}
-use borrow.Author.Rules.{rules}
 use Rattle.linked_hash_map.specs.Calls.{Draining}
-use Rattle.linked_hash_map.proofs.Draining.{drain_start, drain_then}
 use Rattle.linked_hash_map.proofs.map.LinkedHashMap.drained.Given as goal
 
 abbrev pub invariant-loop-left : goal.invariant-loop-left

@@ -1,5 +1,4 @@
 use mathlib.Core.Path.{sym, ◌∙◌}
-use borrow.Author.Rules.{rules}
 use Rattle.linked_hash_map.proofs.Limits.{no_room, room, is_room}
 use Rattle.linked_hash_map.proofs.Probed.{free_not_at, full_not_at}
 use Rattle.linked_hash_map.proofs.Finding.{finding_refused, finding_at, finding_none}

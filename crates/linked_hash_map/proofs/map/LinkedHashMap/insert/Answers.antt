@@ -4,7 +4,6 @@ use mathlib.Core.List.{List}
 use Prim.Native.Nat.{ℕ, ◌+◌, ◌*◌}
 use native.Mathlib.Omega.{arith}
 use lib.ListN.{get_or}
-use borrow.Author.Rules.{rules}
 use Rattle.rings.specs.Ring.{next}
 use Rattle.linked_hash_map.proofs.Putting.{put_in_lem}
 use Rattle.linked_hash_map.proofs.map.LinkedHashMap.insert.Goals as goal

@@ -1,5 +1,4 @@
 use mathlib.Core.Path.{refl}
-use borrow.Author.Rules.{rules}
 use borrow.Author.Tests.{lt-ltb, le-ltb}
 use Rattle.linked_hash_map.specs.Numbers.{len_after, longer_map}
 use Rattle.linked_hash_map.proofs.map.LinkedHashMap.lengthened.Goals as goal

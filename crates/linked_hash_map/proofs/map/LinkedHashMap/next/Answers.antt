@@ -1,5 +1,4 @@
 use native.Mathlib.Omega.{arith}
-use borrow.Author.Rules.{rules}
 use Rattle.linked_hash_map.proofs.Limits.{no_room, room, is_room}
 use Rattle.linked_hash_map.proofs.Walking.{next_refused, next_past, next_is}
 use Rattle.linked_hash_map.proofs.map.LinkedHashMap.next.Goals as goal

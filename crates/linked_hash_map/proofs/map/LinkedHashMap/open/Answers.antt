@@ -1,4 +1,3 @@
-use borrow.Author.Rules.{rules}
 use Rattle.linked_hash_map.proofs.Limits.{no_room, room, is_room}
 use Rattle.linked_hash_map.proofs.Opening.{opening_refused, opening}
 use Rattle.linked_hash_map.proofs.map.LinkedHashMap.open.Goals as goal

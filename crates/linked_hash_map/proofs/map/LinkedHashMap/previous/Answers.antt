@@ -1,5 +1,4 @@
 use native.Mathlib.Omega.{arith}
-use borrow.Author.Rules.{rules}
 use Rattle.linked_hash_map.proofs.Limits.{no_room, room, is_room}
 use Rattle.linked_hash_map.proofs.Walking.{previous_refused, previous_past, previous_is}
 use Rattle.linked_hash_map.proofs.map.LinkedHashMap.previous.Goals as goal

@@ -1,5 +1,4 @@
 use mathlib.Core.Path.{sym, ◌∙◌}
-use borrow.Author.Rules.{rules}
 use Rattle.linked_hash_map.proofs.Places.{put_over, put_full, put_refused}
 use Rattle.linked_hash_map.proofs.map.LinkedHashMap.put.Goals as goal
 

@@ -1,6 +1,5 @@
 use mathlib.Core.Path.{sym, ◌∙◌}
 use native.Mathlib.Omega.{arith}
-use borrow.Author.Rules.{rules}
 use Rattle.linked_hash_map.proofs.Limits.{is_room}
 use Rattle.linked_hash_map.proofs.Finding.{unfit, reading, reading_none}
 use Rattle.linked_hash_map.proofs.map.LinkedHashMap.record.Goals as goal

@@ -1,6 +1,5 @@
 -- The probe of the old key says whether there is a record to take out.
 use mathlib.Core.Path.{sym, ◌∙◌}
-use borrow.Author.Rules.{rules}
 use Rattle.cells.proofs.Probing.{at_found}
 use Rattle.cells.proofs.Indexing.{erased_length}
 use Rattle.linked_hash_map.proofs.Limits.{no_room, room, is_room}

@@ -1,5 +1,4 @@
 use mathlib.Core.Path.{sym, ◌∙◌}
-use borrow.Author.Rules.{rules}
 use Rattle.cells.proofs.Probing.{at_found}
 use Rattle.linked_hash_map.proofs.Limits.{is_room}
 use Rattle.linked_hash_map.proofs.Places.{at_place, remove_free, remove_full, remove_refused}

@@ -1,5 +1,4 @@
 use native.Mathlib.Omega.{arith}
-use borrow.Author.Rules.{rules}
 use Rattle.linked_hash_map.proofs.Limits.{no_room, room, is_room}
 use Rattle.linked_hash_map.proofs.Places.{replacing_unfit, replacing_past, replacing_at}
 use Rattle.linked_hash_map.proofs.map.LinkedHashMap.replace_at.Goals as goal

@@ -1,5 +1,4 @@
 use mathlib.Core.Path.{sym, ◌∙◌}
-use borrow.Author.Rules.{rules}
 use Rattle.linked_hash_map.proofs.Limits.{no_room, room, is_room}
 use Rattle.linked_hash_map.proofs.Places.{place_refused, place_probed}
 use Rattle.linked_hash_map.proofs.map.LinkedHashMap.seek.Goals as goal

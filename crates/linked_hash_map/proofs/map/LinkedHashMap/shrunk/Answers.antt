@@ -1,7 +1,6 @@
 use mathlib.Core.Path.{◌≡◌, refl}
 use Prim.Native.Nat.{◌-◌}
 use native.Mathlib.Omega.{arith}
-use borrow.Author.Rules.{rules}
 use Rattle.linked_hash_map.specs.Numbers.{shrunk_map}
 use Rattle.linked_hash_map.proofs.map.LinkedHashMap.shrunk.Goals as goal
 

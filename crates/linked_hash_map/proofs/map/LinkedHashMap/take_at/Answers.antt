@@ -1,5 +1,4 @@
 use native.Mathlib.Omega.{arith}
-use borrow.Author.Rules.{rules}
 use Rattle.linked_hash_map.proofs.Limits.{no_room, room, is_room}
 use Rattle.linked_hash_map.proofs.Places.{taking_unfit, taking_past, taking_beyond, taking_at}
 use Rattle.linked_hash_map.proofs.map.LinkedHashMap.take_at.Goals as goal

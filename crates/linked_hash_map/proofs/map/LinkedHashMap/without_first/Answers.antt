@@ -1,5 +1,4 @@
 use mathlib.Core.Path.{refl, sym, ◌∙◌}
-use borrow.Author.Rules.{rules}
 use Rattle.linked_hash_map.proofs.Draining.{drain_first, drain_nothing, drain_refused}
 use Rattle.linked_hash_map.proofs.Places.{remove_free, remove_full, remove_refused}
 use Rattle.linked_hash_map.proofs.map.LinkedHashMap.without_first.Goals as goal

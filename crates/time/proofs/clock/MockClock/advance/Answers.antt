@@ -1,5 +1,5 @@
 -- A step ends where a deadline of as many ticks would.
-use Rattle.std.proofs.Common.{rules, le-ltb, lt-ltb}
+use Rattle.std.proofs.Common.{le-ltb, lt-ltb}
 use Rattle.time.specs.Clock.{advanced}
 use Rattle.time.specs.Duration.{is_duration}
 use Rattle.time.proofs.clock.MockClock.advance.Goals as goal

@@ -1,5 +1,5 @@
 -- The test holds exactly where the whole milliseconds fit a u64.
-use Rattle.std.proofs.Common.{arith, rules}
+use Rattle.std.proofs.Common.{arith}
 use Rattle.time.specs.Duration.{millis_of}
 use Rattle.time.proofs.duration.Duration.as_millis.Goals as goal
 

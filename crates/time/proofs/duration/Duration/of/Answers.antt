@@ -1,5 +1,5 @@
 -- The smaller of the number and the largest of 32 bits.
-use Rattle.std.proofs.Common.{◌≡◌, min, refl, arith, rules}
+use Rattle.std.proofs.Common.{◌≡◌, min, refl, arith}
 use Rattle.time.proofs.duration.Duration.of.Goals as goal
 
 pub returns-then-nanos-lt4294967295 : goal.returns-then-nanos-lt4294967295

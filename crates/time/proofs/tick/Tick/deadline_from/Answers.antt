@@ -1,5 +1,5 @@
 -- The sum where it stays below the cap, and the cap elsewhere.
-use Rattle.std.proofs.Common.{ℕ, ap, arith, rules}
+use Rattle.std.proofs.Common.{ℕ, ap, arith}
 use Rattle.time.specs.declared.tick.Tick.{Tick}
 use Rattle.time.specs.Deadline.{deadline_from}
 use Rattle.time.proofs.tick.Tick.deadline_from.Goals as goal

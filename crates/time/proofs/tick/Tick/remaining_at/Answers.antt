@@ -1,5 +1,5 @@
 -- Each return is the definition's case that the test chose.
-use Rattle.std.proofs.Common.{rules, le-leb}
+use Rattle.std.proofs.Common.{le-leb}
 use borrow.Author.Tests.{lt-leb}
 use Rattle.time.specs.Deadline.{is_expired_at, remaining_at}
 use Rattle.time.proofs.tick.Tick.remaining_at.Goals as goal
