@@ -32,7 +32,7 @@ use Rattle.expiring.specs.declared.expiring.Defaulted.TheVariants as defaulted
 use Rattle.expiring_model.specs.declared.lifetimes.DefaultDuration.TheVariants as asked
 use Rattle.expiring.specs.declared.expiring.Opened as expiring
 use Rattle.expiring_model.specs.Model.{fresh}
-use Rattle.expiring.specs.Book.{start, Room, limit_of, rest, heap_of, model_of}
+use Rattle.expiring.specs.Book.{start, Room, limit_of, rest, model_of}
 use Rattle.expiring.specs.Calls.{no_book, by_ticks as outcomeOf, by_duration, opening_of, Opening}
 use Rattle.expiring_model.specs.Model.{of_ticks, default_of}
 use Rattle.expiring.specs.Steps.{by_ticks, defaulted_by, Opened}

@@ -29,7 +29,7 @@ use Rattle.expiring_model.specs.declared.answers.Answer.TheVariants as answers
 use Rattle.expiring.specs.declared.expiring.Expiring.{Expiring}
 use Rattle.expiring_model.specs.Model.{keep, set, value_in, pairs_after}
 use Rattle.expiring_model.specs.Discards.{discards, heap_after}
-use Rattle.expiring.specs.Book.{start, Room, capacity_of, limit_of, IsBook, heap_of}
+use Rattle.expiring.specs.Book.{start, Room, capacity_of, limit_of, IsBook}
 use Rattle.expiring_answers.specs.Answers.{of_found, is_accepted}
 use Rattle.expiring.specs.Steps.{with_list, with_index, deadlines_of, DeadlineOf, Moved, Dating}
 use Rattle.expiring.proofs.Moving.{moved_list, lent, back, lent_is, lent_index, moved_index}

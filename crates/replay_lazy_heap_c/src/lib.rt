@@ -1,5 +1,6 @@
 // The heap's list of calls for programs in C and Rust: the function of `replay_lazy_heap`, exported.
 #![tactic(auto)]
+
 ghost use Rattle.replay.specs.Runs.{Replayed};
 ghost use Rattle.replay_lazy_heap.specs.Numbers.{heap_in};
 ghost use Rattle.replay_lazy_heap.specs.Steps.{Ran};

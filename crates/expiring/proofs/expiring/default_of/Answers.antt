@@ -1,5 +1,4 @@
 use mathlib.Core.Path.{sym, ◌∙◌}
-use borrow.Author.Rules.{rules}
 use Rattle.expiring.proofs.expiring.default_of.Goals as goal
 
 pub returns-in-Ticks : goal.returns-in-Ticks

@@ -1,5 +1,4 @@
 use Rattle.expiring.proofs.Opening.{opening_within}
-use borrow.Author.Rules.{rules}
 use Rattle.expiring.proofs.expiring.open_within.Goals as goal
 
 pub returns : goal.returns

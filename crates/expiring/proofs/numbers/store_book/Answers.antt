@@ -4,7 +4,6 @@ use native.Mathlib.Omega.{arith}
 use lib.ListN.{length-set}
 use Rattle.expiring.specs.Numbers.{with_book}
 use Rattle.expiring.proofs.Storing.{changed_size}
-use borrow.Author.Rules.{rules}
 use Rattle.expiring.proofs.numbers.store_book.Goals as goal
 
 pub bounds-numbers-3 : goal.bounds-numbers-3

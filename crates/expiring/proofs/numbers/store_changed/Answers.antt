@@ -3,7 +3,6 @@ use mathlib.Core.Path.{◌∙◌}
 use lib.ListN.{length-set}
 use Rattle.expiring.specs.Numbers.{with_changed}
 use Rattle.expiring.proofs.Storing.{stay_lru, stay_deadlines}
-use borrow.Author.Rules.{rules}
 use Rattle.expiring.proofs.numbers.store_changed.Goals as goal
 
 pub shape_of-numbers : goal.shape_of-numbers

@@ -1,4 +1,3 @@
-use borrow.Author.Rules.{rules}
 use Rattle.expiring_answers.proofs.answers.of_due.Goals as goal
 
 pub returns-in-Pair : goal.returns-in-Pair

@@ -1,4 +1,3 @@
-use borrow.Author.Rules.{rules}
 use Rattle.expiring_answers.proofs.answers.of_found.Goals as goal
 
 pub returns-in-Value : goal.returns-in-Value

@@ -1,4 +1,3 @@
-use borrow.Author.Rules.{rules}
 use Rattle.expiring_answers.proofs.answers.of_oldest.Goals as goal
 
 pub returns-in-Item : goal.returns-in-Item

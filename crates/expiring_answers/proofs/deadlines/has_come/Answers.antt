@@ -1,4 +1,3 @@
-use borrow.Author.Rules.{rules}
 use Rattle.expiring_answers.proofs.deadlines.has_come.Goals as goal
 
 pub returns-in-At : goal.returns-in-At

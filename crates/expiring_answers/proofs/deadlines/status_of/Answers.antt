@@ -1,5 +1,4 @@
 use mathlib.Core.Path.{sym, ◌∙◌}
-use borrow.Author.Rules.{rules}
 use Rattle.expiring_answers.proofs.deadlines.status_of.Goals as goal
 
 pub returns-in-Expired : goal.returns-in-Expired

@@ -1,7 +1,6 @@
 -- The call is the book's own, on the numbers themselves.
 use native.Mathlib.Omega.{arith}
 use Rattle.hailtansy.proofs.Laws.{no_numbers, no_words, changed}
-use borrow.Author.Rules.{rules}
 use Rattle.hailtansy.proofs.change.hailtansy_set_ttl.Goals as goal
 
 pub returns-then-numbers-lt12 : goal.returns-then-numbers-lt12

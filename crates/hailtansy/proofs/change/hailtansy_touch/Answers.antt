@@ -1,6 +1,5 @@
 -- The call is the book's own.
 use native.Mathlib.Omega.{arith}
-use borrow.Author.Rules.{rules}
 use Rattle.hailtansy.proofs.Laws.{no_numbers, no_words, called}
 use Rattle.hailtansy.proofs.change.hailtansy_touch.Goals as goal
 

@@ -1,6 +1,5 @@
 -- The call is the book's own.
 use native.Mathlib.Omega.{arith}
-use borrow.Author.Rules.{rules}
 use Rattle.replay_expiring.proofs.Steps.{at_contains}
 use Rattle.hailtansy.proofs.Laws.{unseen_numbers, unseen_words, looked}
 use Rattle.hailtansy.proofs.look.hailtansy_contains.Goals as goal

@@ -1,5 +1,4 @@
 -- Each arm is the case of `of_count` that the match found.
-use borrow.Author.Rules.{rules}
 use Rattle.replay_expiration_index.proofs.answer.of_count.Goals as goal
 
 pub returns-in-Number : goal.returns-in-Number

@@ -1,5 +1,4 @@
 -- Each arm is the case of `of_deadline` that the match found.
-use borrow.Author.Rules.{rules}
 use Rattle.replay_expiration_index.proofs.answer.of_deadline.Goals as goal
 
 pub returns-in-At : goal.returns-in-At

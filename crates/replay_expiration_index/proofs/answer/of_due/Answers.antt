@@ -1,5 +1,4 @@
 -- Each arm is the case of `of_due` that the match found.
-use borrow.Author.Rules.{rules}
 use Rattle.replay_expiration_index.proofs.answer.of_due.Goals as goal
 
 pub returns-in-Pair : goal.returns-in-Pair

@@ -1,5 +1,4 @@
 -- The answer is what `of_deadline` ensures.
-use borrow.Author.Rules.{rules}
 use Rattle.replay_expiration_index.proofs.call.changed.Goals as goal
 
 pub returns : goal.returns

@@ -1,5 +1,4 @@
 -- The answer is what `of_due` ensures.
-use borrow.Author.Rules.{rules}
 use Rattle.replay_expiration_index.proofs.call.looked.Goals as goal
 
 pub returns : goal.returns

@@ -1,7 +1,6 @@
 -- Each arm is the step of its operation, with what the index's call ensures. The last arm's operation is 12, since it is
 -- below 13 and none of the others.
 use native.Mathlib.Omega.{arith}
-use borrow.Author.Rules.{rules}
 use Rattle.replay_expiration_index.specs.Steps.{told, contained, expired_counted, counted, asked_empty, entries_counted, checked}
 use Rattle.replay_expiration_index.proofs.call.read.Goals as goal
 

@@ -1,6 +1,5 @@
 -- Each group of operations says which step it is. Any other operation is above 12.
 use native.Mathlib.Omega.{arith}
-use borrow.Author.Rules.{rules}
 use Rattle.replay_expiration_index.specs.Steps.{other}
 use Rattle.replay_expiration_index.proofs.call.step.Goals as goal
 

@@ -1,7 +1,6 @@
 -- Each arm is the step of its operation, with what the index's call ensures. The last arm's operation is 5, since it is
 -- below 6 and none of the others.
 use native.Mathlib.Omega.{arith}
-use borrow.Author.Rules.{rules}
 use Rattle.replay_expiration_index.specs.Steps.{opened, cleared, set, removed, looked, popped}
 use Rattle.replay_expiration_index.proofs.call.write.Goals as goal
 

@@ -1,7 +1,6 @@
 -- The numbers that are read back are those that were stored.
 use mathlib.Core.Path.{refl}
 use native.Mathlib.Omega.{arith}
-use borrow.Author.Rules.{rules}
 use Rattle.replay_lazy_heap.proofs.Laws.{heap_stored, heap_past}
 use Rattle.replay_expiration_index.proofs.list.expiration_index_replay.Goals as goal
 

@@ -1,5 +1,4 @@
 -- The numbers are those that `heap_in` read.
-use borrow.Author.Rules.{rules}
 use Rattle.replay_expiration_index.proofs.list.index_in.Goals as goal
 
 pub returns : goal.returns

@@ -1,11 +1,8 @@
 -- The invariant: the first i calls have run, and the slices have their lengths. A turn adds one call.
 use mathlib.Core.Path.{◌≡◌, refl}
-use Prim.Native.Nat.{◌-◌, ◌≤◌}
 use native.Mathlib.Omega.{arith}
-use lib.ListN.{length}
 use borrow.Author.Rules.{rules}
-use Rattle.replay.specs.Runs.{Run, none, more}
-use Rattle.replay_expiration_index.specs.Steps.{Ran}
+use Rattle.replay.specs.Runs.{none, more}
 use Rattle.replay_expiration_index.proofs.list.run.Goals as goal
 
 pub loop-i-init : goal.loop-i-init

@@ -1,5 +1,4 @@
 -- Each arm is the case of `of_answer` that the match found.
-use borrow.Author.Rules.{rules}
 use Rattle.replay_expiring.proofs.answer.of_answer.Goals as goal
 
 pub returns-in-Nothing : goal.returns-in-Nothing

@@ -1,5 +1,4 @@
 -- Each arm is the case of `of_outcome` that the match found.
-use borrow.Author.Rules.{rules}
 use Rattle.replay_expiring.proofs.answer.of_outcome.Goals as goal
 
 pub returns-in-Done : goal.returns-in-Done

@@ -1,6 +1,5 @@
 -- The test is that of `default_of`.
 use borrow.Author.Tests.{eq-eqb, ne_eqb}
-use borrow.Author.Rules.{rules}
 use Rattle.replay_expiring.proofs.book.default_of.Goals as goal
 
 pub returns-then-given-eq0 : goal.returns-then-given-eq0

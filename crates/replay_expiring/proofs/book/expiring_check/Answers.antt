@@ -2,7 +2,6 @@
 use mathlib.Core.Path.{refl, sym, ◌∙◌}
 use mathlib.Core.Bool.{true≢false}
 use native.Mathlib.Omega.{arith}
-use borrow.Author.Rules.{rules}
 use Rattle.replay_expiring.proofs.book.expiring_check.Goals as goal
 
 pub returns-then-numbers-lt12 : goal.returns-then-numbers-lt12

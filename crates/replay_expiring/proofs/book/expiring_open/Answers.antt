@@ -10,7 +10,6 @@ use Rattle.expiring_model.specs.declared.lifetimes.DefaultDuration.{DefaultDurat
 use Rattle.expiring.specs.Calls.{Opening, opening_of}
 use Rattle.expiring.proofs.Storing.{book_stored}
 use Rattle.replay_expiring.proofs.Laws.{book_past, book_size}
-use borrow.Author.Rules.{rules}
 use Rattle.replay_expiring.proofs.book.expiring_open.Goals as goal
 
 opened : {ws ws' : List ℕ} {c d n : ℕ} {l l' : DefaultDuration} {b : Expiring} {r : Opened} → l ≡ l' → b ≡ r.book → Opening ws c d n l ws' r → Opening ws c d n l' ws' (record { book = b; outcome = opening_of c d (length ws) l' })

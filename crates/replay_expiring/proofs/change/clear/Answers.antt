@@ -1,7 +1,6 @@
 -- The call is the book's own.
 use mathlib.Core.Path.{refl}
 use native.Mathlib.Omega.{arith}
-use borrow.Author.Rules.{rules}
 use Rattle.replay_expiring.specs.Words.{call_of}
 use Rattle.replay_expiring.proofs.Turns.{changed}
 use Rattle.replay_expiring.proofs.change.clear.Goals as goal

@@ -3,7 +3,6 @@ use mathlib.Core.Path.{refl}
 use native.Mathlib.Omega.{arith}
 use Rattle.replay_expiring.specs.Words.{call_of}
 use Rattle.replay_expiring.proofs.Turns.{changing}
-use borrow.Author.Rules.{rules}
 use Rattle.replay_expiring.proofs.change.remove.Goals as goal
 
 pub returns : goal.returns

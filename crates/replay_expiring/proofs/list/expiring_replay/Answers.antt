@@ -2,7 +2,6 @@
 use mathlib.Core.Path.{refl}
 use native.Mathlib.Omega.{arith}
 use Rattle.replay_expiring.proofs.Runs.{run_past}
-use borrow.Author.Rules.{rules}
 use Rattle.replay_expiring.proofs.list.expiring_replay.Goals as goal
 
 pub returns-then-numbers-lt12 : goal.returns-then-numbers-lt12

@@ -1,11 +1,9 @@
 -- The invariant: the first i calls have run, and the slices have their lengths. A turn adds one call, or finds that the next is
 -- none.
-use mathlib.Core.Path.{◌≡◌, refl}
-use Prim.Native.Nat.{◌-◌, ◌≤◌}
+use mathlib.Core.Path.{refl}
 use native.Mathlib.Omega.{arith}
-use lib.ListN.{length}
 use borrow.Author.Rules.{rules}
-use Rattle.replay_expiring.specs.Runs.{Run, none, more}
+use Rattle.replay_expiring.specs.Runs.{none, more}
 use Rattle.replay_expiring.proofs.list.run.Goals as goal
 
 pub loop-i-init : goal.loop-i-init

@@ -1,9 +1,7 @@
-use mathlib.Core.Path.{◌≡◌, refl}
+use mathlib.Core.Path.{◌≡◌}
 use Prim.Native.Nat.{◌-◌, ◌≤◌}
-use native.Mathlib.Omega.{arith}
 use lib.ListN.{length}
-use borrow.Author.Rules.{rules}
-use Rattle.replay_expiring.specs.Runs.{Run, none, more}
+use Rattle.replay_expiring.specs.Runs.{Run}
 use Rattle.replay_expiring.proofs.list.run.Given as goal
 
 abbrev pub invariant-loop-i : goal.invariant-loop-i

@@ -1,6 +1,5 @@
 -- The answer's words are those of the reply.
 use mathlib.Core.Path.{◌∙◌}
-use borrow.Author.Rules.{rules}
 use Rattle.replay_expiring.proofs.tell.store_answer.Goals as goal
 
 pub returns : goal.returns

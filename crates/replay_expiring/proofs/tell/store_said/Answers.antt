@@ -1,6 +1,5 @@
 -- What is written is what was said.
 use mathlib.Core.Path.{◌∙◌}
-use borrow.Author.Rules.{rules}
 use Rattle.replay_expiring.proofs.tell.store_said.Goals as goal
 
 pub returns : goal.returns

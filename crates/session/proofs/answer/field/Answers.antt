@@ -1,4 +1,3 @@
-use borrow.Author.Rules.{rules}
 use Rattle.text.proofs.Laws.{puts_then}
 use Rattle.session.proofs.answer.field.Goals as goal
 

@@ -1,5 +1,4 @@
 use mathlib.Core.Path.{sym}
-use borrow.Author.Rules.{rules}
 use Rattle.text.specs.Text.{fill}
 use Rattle.session.specs.Answers.{head_of}
 use Rattle.session.proofs.Printing.{head_of_lem}

@@ -1,5 +1,4 @@
 use mathlib.Core.List.{append_assoc}
-use borrow.Author.Rules.{rules}
 use Rattle.text.proofs.Laws.{puts_then}
 use Rattle.session.proofs.answer.one.Goals as goal
 

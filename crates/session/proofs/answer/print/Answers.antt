@@ -1,4 +1,3 @@
-use borrow.Author.Rules.{rules}
 use Rattle.text.proofs.Laws.{puts_then}
 use Rattle.session.proofs.Printing.{line_parts}
 use Rattle.session.proofs.answer.print.Goals as goal

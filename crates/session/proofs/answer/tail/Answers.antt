@@ -1,4 +1,3 @@
-use borrow.Author.Rules.{rules}
 use Rattle.text.proofs.Laws.{puts_then}
 use Rattle.text.specs.Text.{fill}
 use Rattle.session.specs.Answers.{tail_of}

@@ -1,5 +1,4 @@
 use mathlib.Core.Path.{sym}
-use borrow.Author.Rules.{rules}
 use Rattle.session.proofs.ask.ask.Goals as goal
 
 pub returns-in-Put : goal.returns-in-Put

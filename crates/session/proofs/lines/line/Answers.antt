@@ -1,5 +1,4 @@
 use Rattle.session.proofs.Blocks.{reads_line}
-use borrow.Author.Rules.{rules}
 use Rattle.session.proofs.lines.line.Goals as goal
 
 pub returns : goal.returns

@@ -1,9 +1,5 @@
 -- No newline from the start up to the place reached.
-use mathlib.Core.Logic.{◌≢◌}
-use Prim.Native.Nat.{ℕ, ◌-◌, ◌<◌, ◌≤◌}
 use native.Mathlib.Omega.{arith}
-use borrow.Author.Rules.{rules}
-use lib.ListN.{length, get_or}
 use Rattle.session.proofs.Blocks.{unbroken_on}
 use Rattle.session.proofs.lines.newline.Goals as goal
 

@@ -1,9 +1,6 @@
 use mathlib.Core.Logic.{◌≢◌}
 use Prim.Native.Nat.{ℕ, ◌-◌, ◌<◌, ◌≤◌}
-use native.Mathlib.Omega.{arith}
-use borrow.Author.Rules.{rules}
 use lib.ListN.{length, get_or}
-use Rattle.session.proofs.Blocks.{unbroken_on}
 use Rattle.session.proofs.lines.newline.Given as goal
 
 abbrev pub invariant-loop-i : goal.invariant-loop-i

@@ -1,9 +1,6 @@
 -- The lines so far, and the end of the next.
 use mathlib.Core.Logic.{inl, inr}
-use Prim.Native.Nat.{◌-◌}
 use native.Mathlib.Omega.{arith}
-use lib.ListN.{length}
-use Rattle.session.specs.Lines.{Reached, FirstNewline}
 use Rattle.session.proofs.Blocks.{unbroken_rest, reached_on, reached_none}
 use Rattle.session.proofs.lines.run.Goals as goal
 

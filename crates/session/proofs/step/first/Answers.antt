@@ -1,6 +1,5 @@
 use mathlib.Core.Path.{refl, sym}
 use Rattle.session.proofs.Stepping.{refuse_begins}
-use borrow.Author.Rules.{rules}
 use Rattle.session.proofs.step.first.Goals as goal
 
 pub returns-in-Book : goal.returns-in-Book

@@ -1,6 +1,5 @@
 use mathlib.Core.Path.{refl}
 use Rattle.session.proofs.Stepping.{call_continues, malformed_continues}
-use borrow.Author.Rules.{rules}
 use Rattle.session.proofs.step.next.Goals as goal
 
 pub returns-in-At : goal.returns-in-At

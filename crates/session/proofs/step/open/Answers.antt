@@ -1,6 +1,5 @@
 use mathlib.Core.Path.{refl, sym, ◌∙◌}
 use Rattle.session.proofs.Stepping.{refuse_begins, wide_capacity, wide_limit, opening_refused, open_begins}
-use borrow.Author.Rules.{rules}
 use Rattle.session.proofs.step.open.Goals as goal
 
 pub returns-then-capacity-gt128 : goal.returns-then-capacity-gt128

@@ -1,6 +1,5 @@
 use mathlib.Core.Path.{refl}
 use Rattle.session.proofs.Printing.{printed}
-use borrow.Author.Rules.{rules}
 use Rattle.session.proofs.step.refused_first.Goals as goal
 
 pub returns : goal.returns

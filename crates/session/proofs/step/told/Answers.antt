@@ -1,5 +1,4 @@
 use Rattle.session.proofs.Printing.{told}
-use borrow.Author.Rules.{rules}
 use Rattle.session.proofs.step.told.Goals as goal
 
 pub returns : goal.returns

@@ -1,7 +1,6 @@
 use mathlib.Core.Path.{sym, ◌∙◌}
 use mathlib.Core.Bool.{true≢false}
 use Rattle.expiring.proofs.Limits.{limits_room, no_book_lem}
-use borrow.Author.Rules.{rules}
 use Rattle.expiring.proofs.expiring.Expiring.check.Goals as goal
 
 pub check_within-requires : goal.check_within-requires

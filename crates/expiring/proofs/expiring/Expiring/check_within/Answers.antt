@@ -1,7 +1,6 @@
 use mathlib.Core.Path.{sym, ◌∙◌}
 use mathlib.Core.Bool.{true≢false}
 use Rattle.expiring.proofs.Asking.{asking_check}
-use borrow.Author.Rules.{rules}
 use Rattle.expiring.proofs.expiring.Expiring.check_within.Goals as goal
 
 pub returns-then-check : goal.returns-then-check

@@ -4,7 +4,6 @@ use Rattle.expiring.proofs.Acting.{follow_limits}
 use Rattle.expiring.proofs.Limits.{limits_room}
 use Rattle.expiring.proofs.Following.{follow_clear}
 use Rattle.expiring.proofs.Limits.{room_same}
-use borrow.Author.Rules.{rules}
 use Rattle.expiring.proofs.expiring.Expiring.clear.Goals as goal
 
 pub drop_all_deadlines-step-requires : goal.drop_all_deadlines-step-requires

@@ -1,5 +1,4 @@
 use Rattle.expiring.proofs.Asking.{asking_deadline}
-use borrow.Author.Rules.{rules}
 use Rattle.expiring.proofs.expiring.Expiring.deadline_of.Goals as goal
 
 pub returns : goal.returns

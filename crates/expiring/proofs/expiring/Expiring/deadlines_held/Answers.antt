@@ -1,7 +1,6 @@
 use mathlib.Core.Path.{sym, ◌∙◌}
 use Rattle.expiring.proofs.Limits.{limits_room}
 use Rattle.expiring.proofs.Asking.{counted_none}
-use borrow.Author.Rules.{rules}
 use Rattle.expiring.proofs.expiring.Expiring.deadlines_held.Goals as goal
 
 pub deadlines_held_within-requires : goal.deadlines_held_within-requires

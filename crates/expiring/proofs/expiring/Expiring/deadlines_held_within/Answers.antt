@@ -1,5 +1,4 @@
 use Rattle.expiring.proofs.Asking.{counted_held}
-use borrow.Author.Rules.{rules}
 use Rattle.expiring.proofs.expiring.Expiring.deadlines_held_within.Goals as goal
 
 pub returns : goal.returns

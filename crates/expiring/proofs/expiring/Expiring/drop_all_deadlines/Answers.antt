@@ -1,5 +1,4 @@
 use Rattle.expiring.proofs.Moving.{moved_clear}
-use borrow.Author.Rules.{rules}
 use Rattle.expiring.proofs.expiring.Expiring.drop_all_deadlines.Goals as goal
 
 pub returns : goal.returns

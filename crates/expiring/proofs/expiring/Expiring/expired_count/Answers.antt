@@ -1,5 +1,4 @@
 use Rattle.expiring.proofs.Asking.{asking_expired, asking_none}
-use borrow.Author.Rules.{rules}
 use Rattle.expiring.proofs.expiring.Expiring.expired_count.Goals as goal
 
 pub returns-in-Number : goal.returns-in-Number

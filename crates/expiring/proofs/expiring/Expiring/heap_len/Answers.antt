@@ -1,7 +1,6 @@
 use mathlib.Core.Path.{sym, ◌∙◌}
 use Rattle.expiring.proofs.Limits.{limits_room}
 use Rattle.expiring.proofs.Asking.{counted_none}
-use borrow.Author.Rules.{rules}
 use Rattle.expiring.proofs.expiring.Expiring.heap_len.Goals as goal
 
 pub heap_len_within-requires : goal.heap_len_within-requires

@@ -1,5 +1,4 @@
 use Rattle.expiring.proofs.Asking.{counted_entries}
-use borrow.Author.Rules.{rules}
 use Rattle.expiring.proofs.expiring.Expiring.heap_len_within.Goals as goal
 
 pub returns : goal.returns

@@ -1,6 +1,5 @@
 use native.Mathlib.Omega.{arith}
 use Rattle.expiring.proofs.Changing.{told_of}
-use borrow.Author.Rules.{rules}
 use Rattle.expiring.proofs.expiring.Expiring.insert_with_ttl.Goals as goal
 
 -- The numbers that were stored tell the book itself.

@@ -1,5 +1,4 @@
 use Rattle.expiring.proofs.Asking.{expired_by_lem}
-use borrow.Author.Rules.{rules}
 use Rattle.expiring.proofs.expiring.Expiring.is_expired.Goals as goal
 
 pub returns : goal.returns

@@ -1,5 +1,4 @@
 use Rattle.expiring.proofs.Asking.{stored_yes, stored_no, stored_refused}
-use borrow.Author.Rules.{rules}
 use Rattle.expiring.proofs.expiring.Expiring.is_stored.Goals as goal
 
 pub returns-in-Yes : goal.returns-in-Yes

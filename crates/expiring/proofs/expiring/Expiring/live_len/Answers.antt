@@ -4,7 +4,6 @@ use native.Mathlib.Omega.{arith}
 use Rattle.expiring.proofs.Acting.{follow_limits}
 use Rattle.expiring.proofs.Limits.{limits_room}
 use Rattle.expiring.proofs.Following.{follow_live}
-use borrow.Author.Rules.{rules}
 use Rattle.expiring.proofs.expiring.Expiring.live_len.Goals as goal
 
 pub expired_count-expired-requires : goal.expired_count-expired-requires

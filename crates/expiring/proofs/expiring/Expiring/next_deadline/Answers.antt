@@ -1,7 +1,6 @@
 use mathlib.Core.Path.{sym, ◌∙◌}
 use Rattle.expiring.proofs.Acting.{follow_limits}
 use Rattle.expiring.proofs.Limits.{limits_room}
-use borrow.Author.Rules.{rules}
 use Rattle.expiring.proofs.expiring.Expiring.next_deadline.Goals as goal
 
 pub next_within-requires : goal.next_within-requires

@@ -1,7 +1,6 @@
 use native.Mathlib.Omega.{arith}
 use Rattle.expiring.proofs.Limits.{room_limits}
 use Rattle.expiring.proofs.Following.{follow_next}
-use borrow.Author.Rules.{rules}
 use Rattle.expiring.proofs.expiring.Expiring.next_within.Goals as goal
 
 pub returns : goal.returns

@@ -1,7 +1,6 @@
 use mathlib.Core.Path.{sym, ◌∙◌}
 use Rattle.expiring.proofs.Limits.{limits_room}
 use Rattle.expiring.proofs.Opening.{opening_limits, opening_nanos, opening_done}
-use borrow.Author.Rules.{rules}
 use Rattle.expiring.proofs.expiring.Expiring.open.Goals as goal
 
 pub open_within-requires : goal.open_within-requires

@@ -3,7 +3,6 @@ use native.Mathlib.Omega.{arith}
 use Rattle.expiring.proofs.Acting.{follow_limits}
 use Rattle.expiring.proofs.Limits.{limits_room}
 use Rattle.expiring.proofs.Following.{follow_peek, follow_peeked}
-use borrow.Author.Rules.{rules}
 use Rattle.expiring.proofs.expiring.Expiring.peek.Goals as goal
 
 pub is_expired-requires : goal.is_expired-requires

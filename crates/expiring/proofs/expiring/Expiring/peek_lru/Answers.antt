@@ -2,7 +2,6 @@ use mathlib.Core.Path.{sym, ◌∙◌}
 use native.Mathlib.Omega.{arith}
 use Rattle.expiring.proofs.Acting.{follow_limits}
 use Rattle.expiring.proofs.Following.{follow_oldest}
-use borrow.Author.Rules.{rules}
 use Rattle.expiring.proofs.expiring.Expiring.peek_lru.Goals as goal
 
 pub returns-in-Refused : goal.returns-in-Refused

@@ -2,7 +2,6 @@ use mathlib.Core.Path.{◌∙◌}
 use Rattle.expiring.proofs.Popping.{popping_none, popping_refused, popping_some}
 use Rattle.expiring.proofs.Valuing.{dropping}
 use Rattle.expiring.proofs.Moving.{index_kept}
-use borrow.Author.Rules.{rules}
 use Rattle.expiring.proofs.expiring.Expiring.pop_expired.Goals as goal
 
 pub shape_of-words-in-Pair : goal.shape_of-words-in-Pair

@@ -1,7 +1,6 @@
 use mathlib.Core.Path.{sym, ◌∙◌}
 use Rattle.expiring.proofs.Acting.{follow_limits}
 use Rattle.expiring.proofs.Limits.{limits_room}
-use borrow.Author.Rules.{rules}
 use Rattle.expiring.proofs.expiring.Expiring.purge_expired.Goals as goal
 
 pub purge_within-requires : goal.purge_within-requires

@@ -1,9 +1,8 @@
 use native.Mathlib.Omega.{arith}
 use mathlib.Core.Path.{refl, ◌∙◌}
-use borrow.Author.Rules.{rules}
 use Rattle.binary_heap.proofs.Limits.{unfit, fitting}
 use Rattle.expiring.proofs.Limits.{room_limits}
-use Rattle.expiring.proofs.PurgeLoop.{Progress, progress_none, progress_room, progress_more, purge_ends, purge_spent}
+use Rattle.expiring.proofs.PurgeLoop.{progress_none, progress_room, progress_more, purge_ends, purge_spent}
 use Rattle.expiring.proofs.expiring.Expiring.purge_within.Goals as goal
 
 pub loop-left-init : goal.loop-left-init

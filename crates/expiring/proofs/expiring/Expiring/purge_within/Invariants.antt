@@ -1,9 +1,4 @@
-use native.Mathlib.Omega.{arith}
-use mathlib.Core.Path.{refl, ◌∙◌}
-use borrow.Author.Rules.{rules}
-use Rattle.binary_heap.proofs.Limits.{unfit, fitting}
-use Rattle.expiring.proofs.Limits.{room_limits}
-use Rattle.expiring.proofs.PurgeLoop.{Progress, progress_none, progress_room, progress_more, purge_ends, purge_spent}
+use Rattle.expiring.proofs.PurgeLoop.{Progress}
 use Rattle.expiring.proofs.expiring.Expiring.purge_within.Given as goal
 
 abbrev pub invariant-loop-left : goal.invariant-loop-left

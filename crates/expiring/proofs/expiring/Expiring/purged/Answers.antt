@@ -1,4 +1,3 @@
-use borrow.Author.Rules.{rules}
 use Rattle.expiring.proofs.expiring.Expiring.purged.Goals as goal
 
 pub returns : goal.returns

@@ -2,7 +2,6 @@ use mathlib.Core.Path.{sym, ◌∙◌}
 use native.Mathlib.Omega.{arith}
 use Rattle.expiring.proofs.Acting.{follow_limits}
 use Rattle.expiring.proofs.Following.{follow_rank}
-use borrow.Author.Rules.{rules}
 use Rattle.expiring.proofs.expiring.Expiring.recency_rank.Goals as goal
 
 pub returns-in-Refused : goal.returns-in-Refused

@@ -1,5 +1,4 @@
 use Rattle.expiring.proofs.Asking.{count_stored, count_refused}
-use borrow.Author.Rules.{rules}
 use Rattle.expiring.proofs.expiring.Expiring.stored_count.Goals as goal
 
 pub returns-in-Number : goal.returns-in-Number

@@ -3,7 +3,6 @@ use native.Mathlib.Omega.{arith}
 use Rattle.expiring.proofs.Acting.{follow_limits}
 use Rattle.expiring.proofs.Limits.{limits_room}
 use Rattle.expiring.proofs.Following.{follow_status, follow_status_missing}
-use borrow.Author.Rules.{rules}
 use Rattle.expiring.proofs.expiring.Expiring.ttl_status.Goals as goal
 
 pub deadline_of-requires : goal.deadline_of-requires

@@ -1,6 +1,5 @@
 use mathlib.Core.Path.{sym, ◌∙◌}
 use Rattle.expiring.proofs.Changing.{concluding_expired, concluding_found}
-use borrow.Author.Rules.{rules}
 use Rattle.expiring.proofs.expiring.changes.concluded.Goals as goal
 
 pub returns-then-has_come : goal.returns-then-has_come

@@ -1,5 +1,4 @@
 use Rattle.expiring.specs.Numbers.{with_expiration}
-use borrow.Author.Rules.{rules}
 use Rattle.expiring.proofs.expiring.changes.count_expiration.Goals as goal
 
 pub returns : goal.returns

@@ -1,6 +1,5 @@
 use Rattle.expiring.proofs.Storing.{stay_then}
 use Rattle.expiring.proofs.Changing.{dropped_both}
-use borrow.Author.Rules.{rules}
 use Rattle.expiring.proofs.expiring.changes.drop_both.Goals as goal
 
 pub returns : goal.returns

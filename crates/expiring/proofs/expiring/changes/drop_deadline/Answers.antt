@@ -1,5 +1,4 @@
 use Rattle.expiring.proofs.Changing.{dropping_of}
-use borrow.Author.Rules.{rules}
 use Rattle.expiring.proofs.expiring.changes.drop_deadline.Goals as goal
 
 pub returns : goal.returns

@@ -1,5 +1,4 @@
 use Rattle.expiring.proofs.Changing.{taking}
-use borrow.Author.Rules.{rules}
 use Rattle.expiring.proofs.expiring.changes.drop_value.Goals as goal
 
 pub returns : goal.returns

@@ -8,7 +8,6 @@ use Rattle.expiring.proofs.Acting.{follow_limits}
 use Rattle.expiring.proofs.Following.{follow_get_expired, follow_got}
 use Rattle.expiring.proofs.Storing.{lru_stored, expiration_stored, stay_same, stay_then, stay_lru, stay_expiration}
 use Rattle.expiring.proofs.Changing.{changing_refused, changing, limits_in_lem, ready_in, told_in_lem}
-use borrow.Author.Rules.{rules}
 use Rattle.expiring.proofs.expiring.changes.get.Goals as goal
 
 pub returns-then-numbers-lt12 : goal.returns-then-numbers-lt12

@@ -7,7 +7,6 @@ use Rattle.expiring.proofs.Acting.{acting_full}
 use Rattle.binary_heap.proofs.Limits.{unfit, fitting}
 use native.Mathlib.Omega.{arith}
 use mathlib.Core.Path.{refl, sym, ◌∙◌}
-use borrow.Author.Rules.{rules}
 use Rattle.expiring.proofs.expiring.changes.insert_until.Goals as goal
 
 pub returns-then-not-is_accepted : goal.returns-then-not-is_accepted

@@ -6,7 +6,6 @@ use Rattle.expiring.proofs.Acting.{follow_limits}
 use Rattle.expiring.proofs.Following.{follow_remove}
 use Rattle.expiring.proofs.Storing.{stay_same}
 use Rattle.expiring.proofs.Changing.{changing_refused, changing, limits_in_lem, ready_in}
-use borrow.Author.Rules.{rules}
 use Rattle.expiring.proofs.expiring.changes.remove.Goals as goal
 
 pub returns-then-numbers-lt12 : goal.returns-then-numbers-lt12

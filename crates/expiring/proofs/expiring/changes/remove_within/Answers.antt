@@ -4,7 +4,6 @@ use Rattle.expiring.proofs.Storing.{stay_then}
 use Rattle.expiring.proofs.Changing.{taken_after}
 use native.Mathlib.Omega.{arith}
 use mathlib.Core.Path.{refl}
-use borrow.Author.Rules.{rules}
 use Rattle.expiring.proofs.expiring.changes.remove_within.Goals as goal
 
 pub returns : goal.returns

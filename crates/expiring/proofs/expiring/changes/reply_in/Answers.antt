@@ -1,5 +1,4 @@
 use mathlib.Core.Path.{refl}
-use borrow.Author.Rules.{rules}
 use Rattle.expiring.proofs.expiring.changes.reply_in.Goals as goal
 
 pub returns : goal.returns

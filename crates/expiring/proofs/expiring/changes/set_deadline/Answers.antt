@@ -1,5 +1,4 @@
 use Rattle.expiring.proofs.Changing.{setting}
-use borrow.Author.Rules.{rules}
 use Rattle.expiring.proofs.expiring.changes.set_deadline.Goals as goal
 
 pub returns : goal.returns

@@ -9,7 +9,6 @@ use Rattle.expiring.proofs.Lifetimes.{is_duration_lem, no_duration}
 use Rattle.expiring.proofs.Acting.{follow_limits, follow_nanos}
 use Rattle.expiring.proofs.Storing.{stay_same}
 use Rattle.expiring.proofs.Changing.{changing_refused, changing, limits_in_lem, ready_in}
-use borrow.Author.Rules.{rules}
 use Rattle.expiring.proofs.expiring.changes.set_ttl.Goals as goal
 
 pub returns-then-numbers-lt12 : goal.returns-then-numbers-lt12

@@ -8,7 +8,6 @@ use Rattle.expiring.proofs.Limits.{room_limits}
 use Rattle.expiring.proofs.Following.{follow_ttl_missing, follow_ttl_expired, follow_ttl_zero, follow_ttl_full, follow_ttl_set}
 use Rattle.expiring.proofs.Storing.{expiration_stored, stay_same, stay_then, stay_expiration}
 use Rattle.expiring.proofs.Changing.{told_in_lem}
-use borrow.Author.Rules.{rules}
 use Rattle.expiring.proofs.expiring.changes.set_ttl_within.Goals as goal
 
 pub returns-then-not-is_stored : goal.returns-then-not-is_stored

@@ -1,5 +1,4 @@
 use Rattle.session.proofs.Stepping.{step_short, step_first, step_next, step_ended}
-use borrow.Author.Rules.{rules}
 use Rattle.session.proofs.step.Session.step.Goals as goal
 
 pub returns-then-out-lt160 : goal.returns-then-out-lt160
