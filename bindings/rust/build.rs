@@ -15,7 +15,6 @@ fn main() {
         Some(made) => PathBuf::from(made),
         None => prove(&root),
     };
-    // `rt ci` removes the repository's target folder, so the library is linked from a copy.
     let folder = PathBuf::from(env::var_os("OUT_DIR").expect("cargo sets OUT_DIR"));
     fs::copy(
         libraries.join("libhailtansy.a"),
@@ -28,14 +27,13 @@ fn main() {
 
 /// Makes the library, and says in which folder it is.
 fn prove(root: &Path) -> PathBuf {
-    let proof = Command::new("rt")
-        .args(["staticlib", "hailtansy"])
-        .current_dir(root)
+    let proof = Command::new(root.join("bindings/library"))
+        .arg("hailtansy")
         .output()
-        .expect("rt, of the Rattle toolchain, should be on the PATH");
+        .expect("bindings/library is there");
     assert!(
         proof.status.success(),
-        "`rt staticlib hailtansy`: {}\n{}{}",
+        "`bindings/library hailtansy`: {}\n{}{}",
         proof.status,
         String::from_utf8_lossy(&proof.stderr),
         String::from_utf8_lossy(&proof.stdout)

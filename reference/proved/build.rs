@@ -25,7 +25,6 @@ fn main() {
     println!("cargo:rustc-link-search=native={}", folder.display());
     for name in CRATES {
         let libraries = made.clone().unwrap_or_else(|| prove(&root, name));
-        // `rt ci` removes the repository's target folder, so the library is linked from a copy.
         let library = format!("lib{name}.a");
         fs::copy(libraries.join(&library), folder.join(&library)).expect("the library is there");
         println!("cargo:rustc-link-lib=static={name}");
@@ -34,14 +33,13 @@ fn main() {
 
 /// Makes a crate's library, and says in which folder it is.
 fn prove(root: &Path, name: &str) -> PathBuf {
-    let proof = Command::new("rt")
-        .args(["staticlib", name])
-        .current_dir(root)
+    let proof = Command::new(root.join("bindings/library"))
+        .arg(name)
         .output()
-        .expect("rt, of the Rattle toolchain, should be on the PATH");
+        .expect("bindings/library is there");
     assert!(
         proof.status.success(),
-        "`rt staticlib {name}`: {}\n{}{}",
+        "`bindings/library {name}`: {}\n{}{}",
         proof.status,
         String::from_utf8_lossy(&proof.stderr),
         String::from_utf8_lossy(&proof.stdout)

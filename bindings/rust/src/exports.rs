@@ -5,7 +5,7 @@
 //! reads and writes the slices that it is lent and nothing else, within their lengths. What is left
 //! to the caller is what a slice is, an address that is aligned and not null with so many words
 //! behind it, and that no slice that may be written overlaps another. Rust's references say both.
-//! The library is built by `rt staticlib` from the sources that it proves; each declaration here
+//! The library is built by `bindings/library` from the sources that it proves; each declaration here
 //! repeats one of crates/hailtansy/src, where a slice is passed as its address and its length.
 
 /// Four words: a code, two numbers that depend on it, and how many entries were discarded.
