@@ -35,6 +35,7 @@ pub enum Form {
 }
 
 // Reads a line of any length.
+#[tactic(auto, using(crate::proofs::Wholes::long_line, crate::proofs::Spellings::parsed))]
 pub fn parse(line: &[u8]) -> Form
     ensures { Reads line.now result }
 {

@@ -44,6 +44,7 @@ pub fn heap(limit: usize, size: usize) -> Outcome
 }
 
 // And refusal 5, of a factor.
+#[tactic(auto, unfolding(crate::specs::Limits::heap_limits_with))]
 pub fn heap_with_factor(limit: usize, size: usize, factor: usize) -> Outcome
     ensures { result ≡ heap_limits_with limit size factor }
 {

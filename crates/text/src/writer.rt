@@ -49,6 +49,7 @@ pub fn put(out: &mut [u8], at: usize, text: &[u8]) -> usize
 }
 
 // Writes a number likewise. Most have one digit.
+#[tactic(auto, using(crate::proofs::Stores::puts_digit))]
 pub fn put_number(out: &mut [u8], at: usize, n: u64) -> usize
     ensures { Puts out.old at (decimal n) out.new result }
 {

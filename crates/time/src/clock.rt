@@ -45,6 +45,7 @@ impl MockClock {
     }
 
     // Moves on by the whole milliseconds of `delta`, and ends at most at u64::MAX - 1, even from u64::MAX.
+    #[tactic(auto, unfolding(crate::specs::Duration::is_duration, crate::specs::Clock::advanced))]
     pub fn advance(self, delta: Duration) -> Advanced
         ensures { result ≡ advanced self delta }
     {

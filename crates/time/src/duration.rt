@@ -68,6 +68,7 @@ impl Duration {
 }
 
 // The lifetime that a duration stands for.
+#[tactic(auto, unfolding(crate::specs::Duration::is_duration, crate::specs::Duration::ticks_of))]
 pub fn duration_to_ticks(duration: Duration) -> Ticked
     ensures { result ≡ ticks_of duration }
 {

@@ -2,12 +2,9 @@
 use mathlib.Core.Path.{sym, ◌∙◌}
 use native.Mathlib.Omega.{arith}
 use borrow.Author.Tests.{not-true, not-false}
-use Rattle.forms.proofs.Wholes.{long_line, no_tick, book_line, call_line}
+use Rattle.forms.proofs.Wholes.{no_tick, book_line, call_line}
 use Rattle.forms.proofs.Spellings.{parsed}
 use Rattle.forms.proofs.form.parse.Goals as goal
-
-pub returns-then-line-gt200 : goal.returns-then-line-gt200
-returns-then-line-gt200 c = parsed (long_line _ c.if-line-gt200.true)
 
 pub returns-then-not-tick : goal.returns-then-not-tick
 returns-then-not-tick c = parsed (no_tick _ c.if-line-gt200.false c.number_after-tick.ensures (not-true _ c.if-not-tick.true) ∙ sym c.book.ensures)
