@@ -196,6 +196,7 @@ impl ExpirationIndex {
     }
 
     // Whether words and numbers form an index. It refuses nothing.
+    #[tactic(auto, using(crate::proofs::Calling::checking, crate::proofs::Calling::checking_not))]
     pub fn check(self, words: &[u64]) -> bool
         ensures { Checking words.now self result }
     {
