@@ -188,6 +188,9 @@ fn remove_within(numbers: &mut [u64], words: &mut [u64], tick: Tick, key: u64) -
     }
 }
 
+// A new lifetime of so many ticks removes the key.
+const NO_TICKS: u64 = 0;
+
 fn set_ttl_within(
     numbers: &mut [u64],
     words: &mut [u64],
@@ -207,7 +210,7 @@ fn set_ttl_within(
         count_expiration(numbers);
         return answering(Answer::No);
     }
-    if ticks.0 == 0 {
+    if ticks.0 == NO_TICKS {
         drop_both(numbers, words, key);
         return answering(Answer::No);
     }

@@ -32,14 +32,14 @@ returns-then-is_expired c =
     let twelve : 12 ≤ length c.drop_both.new.numbers = omega (arith, stay.size, c.requires.numbers) in
     (rw c.count_expiration.ensures (stay_then stay (stay_expiration _)), λ d i m. rw c.answering-then-is_expired.ensures (told_in_lem c.count_expiration.new.numbers (rw c.count_expiration.ensures (sym (expiration_stored _ twelve))) (follow_ttl_expired _ (book_in ns) _ limits w _ d i held (fitting refl c.if-not-is_stored.false-raw) come c.if-is_expired.true c.drop_both.ensures.1)))
 
-pub returns-then-ticks-eq0 : goal.returns-then-ticks-eq0
-returns-then-ticks-eq0 c =
+pub returns-then-ticks-eq-NO_TICKS : goal.returns-then-ticks-eq-NO_TICKS
+returns-then-ticks-eq-NO_TICKS c =
     let ns = c.args.numbers.now in
     let limits = room_limits c.requires.room in
     let held = rw c.book_in-book.ensures at c.is_stored.ensures in
     let w : get_or ns 11 0 < 2 ^ 64 = omega (arith, c.slice_known-1.given 11) in
     let come = rw c.book_in-book.ensures at c.is_expired.ensures in
-    (c.drop_both-then-ticks-eq0.ensures.0, λ d i m. rw c.answering-then-ticks-eq0.ensures (follow_ttl_zero _ (book_in ns) _ limits w _ d i held (fitting refl c.if-not-is_stored.false-raw) come c.if-is_expired.false (m ∙ c.if-ticks-eq0.true) c.drop_both-then-ticks-eq0.ensures.1))
+    (c.drop_both-then-ticks-eq-NO_TICKS.ensures.0, λ d i m. rw c.answering-then-ticks-eq-NO_TICKS.ensures (follow_ttl_zero _ (book_in ns) _ limits w _ d i held (fitting refl c.if-not-is_stored.false-raw) come c.if-is_expired.false (m ∙ c.if-ticks-eq-NO_TICKS.true) c.drop_both-then-ticks-eq-NO_TICKS.ensures.1))
 
 pub returns-then-not-is_accepted : goal.returns-then-not-is_accepted
 returns-then-not-is_accepted c =
@@ -50,7 +50,7 @@ returns-then-not-is_accepted c =
     let come = rw c.book_in-book.ensures at c.is_expired.ensures in
     let o = rw c.deadline_from.ensures at c.set_deadline-dated.ensures in
     let n = sym c.is_accepted.ensures ∙ unfit refl c.if-not-is_accepted.true-raw in
-    (o.stay, λ d i m. rw c.answering-then-not-is_accepted.ensures (told_in_lem c.set_deadline-dated.new.numbers (sym (o.refused n)) (follow_ttl_full _ (book_in ns) _ limits w _ d i held (fitting refl c.if-not-is_stored.false-raw) come c.if-is_expired.false (λ r. c.if-ticks-eq0.false (sym m ∙ r)) m o.dating n)))
+    (o.stay, λ d i m. rw c.answering-then-not-is_accepted.ensures (told_in_lem c.set_deadline-dated.new.numbers (sym (o.refused n)) (follow_ttl_full _ (book_in ns) _ limits w _ d i held (fitting refl c.if-not-is_stored.false-raw) come c.if-is_expired.false (λ r. c.if-ticks-eq-NO_TICKS.false (sym m ∙ r)) m o.dating n)))
 
 pub returns : goal.returns
 returns c =
@@ -61,4 +61,4 @@ returns c =
     let come = rw c.book_in-book.ensures at c.is_expired.ensures in
     let o = rw c.deadline_from.ensures at c.set_deadline-dated.ensures in
     let n = sym c.is_accepted.ensures ∙ fitting refl c.if-not-is_accepted.false-raw in
-    (o.stay, λ d i m. told_in_lem c.set_deadline-dated.new.numbers (sym o.part) (follow_ttl_set _ (book_in ns) _ limits w _ d i held (fitting refl c.if-not-is_stored.false-raw) come c.if-is_expired.false (λ r. c.if-ticks-eq0.false (sym m ∙ r)) m o.dating n))
+    (o.stay, λ d i m. told_in_lem c.set_deadline-dated.new.numbers (sym o.part) (follow_ttl_set _ (book_in ns) _ limits w _ d i held (fitting refl c.if-not-is_stored.false-raw) come c.if-is_expired.false (λ r. c.if-ticks-eq-NO_TICKS.false (sym m ∙ r)) m o.dating n))
