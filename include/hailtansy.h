@@ -26,7 +26,7 @@
  *
  *     cc -Iinclude program.c target/staticlib/libhailtansy.a
  *
- * `rt staticlib hailtansy` proves and writes that library, for x86-64.
+ * `bindings/library hailtansy` proves and writes that library, for x86-64.
  *
  * What is proved: on every list of calls after an accepted opening each answer
  * is that of a plain model of the book, and the book then reads as the model

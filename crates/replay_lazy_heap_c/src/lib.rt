@@ -5,6 +5,8 @@ ghost use Rattle.replay.specs.Runs.{Replayed};
 ghost use Rattle.replay_lazy_heap.specs.Numbers.{heap_in};
 ghost use Rattle.replay_lazy_heap.specs.Steps.{Ran};
 
+// Runs the calls on the words, and on the heap's numbers. Says how many calls it ran: as many as have room for an answer,
+// or none where there are fewer than six numbers.
 #[unsafe(no_mangle)]
 pub extern "C" fn lazy_heap_replay(
     numbers: &mut [u64],

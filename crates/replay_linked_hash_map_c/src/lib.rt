@@ -5,6 +5,8 @@ ghost use Rattle.replay.specs.Runs.{Replayed};
 ghost use Rattle.replay_linked_hash_map.specs.Numbers.{map_in};
 ghost use Rattle.replay_linked_hash_map.specs.Steps.{Ran};
 
+// Runs the calls on the words, and on the map's numbers. Says how many calls it ran: as many as have room for an answer,
+// or none where there are fewer than three numbers.
 #[unsafe(no_mangle)]
 pub extern "C" fn linked_hash_map_replay(
     numbers: &mut [u64],
