@@ -1,14 +1,8 @@
 -- The model: document 01, "fast_lru.rs". A list of items, newest first. It knows nothing of words.
-use Rattle.std.specs.Prelude.{◌≡◌, Bool, true, false, cond, ◌||◌, List, [], ◌∷◌, ℕ, ◌+◌, eqb, ltb, length}
+use Rattle.std.specs.Prelude.{◌≡◌, Bool, true, false, cond, ◌||◌, List, [], ◌∷◌, ℕ, ◌+◌, eqb, ltb, length, Result, Ok, Some, None}
+use Rattle.std.specs.Prelude as std
 use Rattle.std.proofs.Math.Option.{Option, none, some}
-use Rattle.fast_lru_model.specs.declared.answers.Found.{Found}
-use Rattle.fast_lru_model.specs.declared.answers.Found.TheVariants as found
-use Rattle.fast_lru_model.specs.declared.answers.Oldest.{Oldest}
-use Rattle.fast_lru_model.specs.declared.answers.Oldest.TheVariants as oldest
-use Rattle.fast_lru_model.specs.declared.answers.Rank.{Rank}
-use Rattle.fast_lru_model.specs.declared.answers.Rank.TheVariants as rank
-use Rattle.fast_lru_model.specs.declared.answers.Told.{Told}
-use Rattle.fast_lru_model.specs.declared.answers.Told.TheVariants as told
+use Rattle.time.specs.declared.refusal.Refusal.{Refusal}
 
 pub record Item : Type 0 where
   pub key : ℕ
@@ -45,17 +39,31 @@ less none l = l
 less (some i) l = without i.key l
 
 -- ---- answers
+-- a value, or none
+abbrev pub Found : Type 0
+Found = Result (std.Option ℕ) Refusal
+
+-- a key and its value, or none
+abbrev pub Oldest : Type 0
+Oldest = Result (std.Option (ℕ × ℕ)) Refusal
+
+-- 0 is the most recent
+abbrev pub Rank : Type 0
+Rank = Result (std.Option ℕ) Refusal
+
+abbrev pub Told : Type 0
+Told = Result Bool Refusal
+
 abbrev pub value_in : Option Item → Found
-value_in none = found.Nothing
-value_in (some i) = found.Value i.value
+value_in none = Ok None
+value_in (some i) = Ok (Some i.value)
 
 abbrev pub item_in : Option Item → Oldest
-item_in none = oldest.Nothing
-item_in (some i) = oldest.Item i.key i.value
+item_in none = Ok None
+item_in (some i) = Ok (Some (i.key, i.value))
 
 abbrev pub tell : Bool → Told
-tell true = told.Yes
-tell false = told.No
+tell b = Ok b
 
 -- ---- calls
 -- `peek`: the value of a key, and nothing moves; `get`, `insert` and `remove` answer the same
@@ -95,8 +103,8 @@ popped l = less (last l) l
 
 -- `recency_rank`: the place of a key, the front being n
 unfoldable pub rank_from : ℕ → ℕ → Items → Rank
-rank_from n k [] = rank.Nothing
-rank_from n k (i ∷ l) = cond (eqb i.key k) (rank.At n) (rank_from (n + 1) k l)
+rank_from n k [] = Ok None
+rank_from n k (i ∷ l) = cond (eqb i.key k) (Ok (Some n)) (rank_from (n + 1) k l)
 
 unfoldable pub rank_of : ℕ → Items → Rank
 rank_of k l = rank_from 0 k l
