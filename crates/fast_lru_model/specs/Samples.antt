@@ -1,6 +1,6 @@
 -- Worked examples: sample B12 of document 01, and lists with room for none, one and a few items.
-use Rattle.std.specs.Prelude.{List, [], ◌∷◌, ℕ, true, false, eqb, length, Ok, Some, None}
-use Rattle.fast_lru_model.specs.Model.{Items, Found, Oldest, Rank, Told, has, without, tell, value_of, to_front, inserted, oldest_of, popped, rank_of}
+use Rattle.std.specs.Prelude.{List, [], ◌∷◌, ℕ, Bool, true, false, eqb, length, Option, Some, None}
+use Rattle.fast_lru_model.specs.Model.{Items, has, without, value_of, to_front, inserted, oldest_of, popped, rank_of}
 
 pub data Call : Type 0 where
   len : Call
@@ -18,10 +18,10 @@ pub data Call : Type 0 where
 
 pub data Answer : Type 0 where
   number : ℕ → Answer
-  says : Told → Answer
-  value : Found → Answer
-  item : Oldest → Answer
-  at : Rank → Answer
+  says : Bool → Answer
+  value : Option ℕ → Answer
+  item : Option (ℕ × ℕ) → Answer
+  at : Option ℕ → Answer
   done : Answer
 
 -- a list of calls on a fresh list with room for `capacity` items
@@ -33,8 +33,8 @@ pub record Sample : Type 0 where
 -- what the definitions answer, and the list after it, with room for c items
 abbrev pub answer : Call → Items → Answer
 answer len l = number (length l)
-answer is_empty l = says (tell (eqb (length l) 0))
-answer (contains k) l = says (tell (has k l))
+answer is_empty l = says (eqb (length l) 0)
+answer (contains k) l = says (has k l)
 answer (get k) l = value (value_of k l)
 answer (peek k) l = value (value_of k l)
 answer (insert k v) l = value (value_of k l)
@@ -42,7 +42,7 @@ answer (remove k) l = value (value_of k l)
 answer pop_lru l = item (oldest_of l)
 answer peek_lru l = item (oldest_of l)
 answer clear l = done
-answer (touch k) l = says (tell (has k l))
+answer (touch k) l = says (has k l)
 answer (recency_rank k) l = at (rank_of k l)
 
 abbrev pub after : ℕ → Call → Items → Items
@@ -67,29 +67,29 @@ abbrev sample : ℕ → List Call → List Answer → Sample
 sample c calls answers = record { capacity = c; calls = calls; answers = answers }
 
 abbrev new : Answer
-new = value (Ok None)
+new = value None
 
 abbrev old : ℕ → Answer
-old v = value (Ok (Some v))
+old v = value (Some v)
 
 abbrev yes : Answer
-yes = says (Ok true)
+yes = says true
 
 abbrev no : Answer
-no = says (Ok false)
+no = says false
 
 abbrev ranked : ℕ → Answer
-ranked n = at (Ok (Some n))
+ranked n = at (Some n)
 
 abbrev unranked : Answer
-unranked = at (Ok None)
+unranked = at None
 
 -- the least recent item, and that of an empty list
 abbrev least : ℕ → ℕ → Answer
-least k v = item (Ok (Some (k, v)))
+least k v = item (Some (k, v))
 
 abbrev empty : Answer
-empty = item (Ok None)
+empty = item None
 
 abbrev pub samples : List Sample
 samples =
