@@ -1,12 +1,10 @@
 -- What the calls do to the numbers, and when the cells are entered anew.
-use Rattle.std.specs.Prelude.{◌≡◌, cond, List, ℕ, ◌+◌, ◌-◌, ◌*◌, ◌<◌, ◌≤◌, ltb}
+use Rattle.std.specs.Prelude.{◌≡◌, cond, List, ℕ, ◌+◌, ◌-◌, ◌*◌, ◌<◌, ◌≤◌, ltb, Option, Some, None}
 use Rattle.rings.specs.Ring.{next, moved}
 use Rattle.cells.specs.declared.Probe.TheVariants.{Free}
 use Rattle.cells.specs.Probe.{probe}
 use Rattle.linked_hash_map.specs.declared.map.LinkedHashMap.{LinkedHashMap}
 use Rattle.linked_hash_map.specs.declared.map.Record.{Record}
-use Rattle.linked_hash_map.specs.declared.map.Slot.{Slot}
-use Rattle.linked_hash_map.specs.declared.map.Slot.TheVariants.{At, Nothing}
 use Rattle.linked_hash_map.specs.Words.{refilled, put_in}
 
 -- the empty map's numbers
@@ -18,8 +16,8 @@ unfoldable pub shrunk_map : LinkedHashMap → LinkedHashMap
 shrunk_map m = record { capacity = m.capacity; len = m.len - 1; refill_in = m.refill_in }
 
 -- the slot that a link leads to
-unfoldable pub slot_from : ℕ → ℕ → Slot
-slot_from n x = cond (ltb x n) (At x) Nothing
+unfoldable pub slot_from : ℕ → ℕ → Option ℕ
+slot_from n x = cond (ltb x n) (Some x) None
 
 -- one record more
 unfoldable pub len_after : LinkedHashMap → ℕ
