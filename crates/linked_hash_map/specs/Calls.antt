@@ -1,5 +1,5 @@
 -- What each call promises: on any words at all, and on a map.
-use Rattle.std.specs.Prelude.{◌≡◌, Bool, true, false, cond, List, [], ℕ, ◌+◌, ◌-◌, ◌<◌, ◌≤◌, length, Option, Some, None, Result, Ok, Err, IsOk, IfOk}
+use Rattle.std.specs.Prelude.{◌≡◌, Bool, true, false, cond, List, [], ℕ, ◌+◌, ◌-◌, ◌*◌, ◌<◌, ◌≤◌, ltb, length, get_or, Option, Some, None, Result, Ok, Err, IsOk, IfOk}
 use Rattle.limits.specs.Limits.{map_fits}
 use Rattle.cells.specs.declared.Probe.{Probe}
 use Rattle.cells.specs.declared.Probe.TheVariants.{At, Free}
@@ -10,7 +10,7 @@ use Rattle.linked_hash_map.specs.declared.map.Unfit.{Unfit}
 use Rattle.linked_hash_map.specs.declared.map.PutError.{PutError}
 use Rattle.linked_hash_map.specs.declared.map.PutError.TheVariants as failed
 use Rattle.linked_hash_map.specs.Words.{Kept}
-use Rattle.linked_hash_map.specs.Numbers.{shrunk_map, longer_map}
+use Rattle.linked_hash_map.specs.Numbers.{shrunk_map, longer_map, slot_from}
 use Rattle.linked_hash_map.specs.Model.{has, lookup, nth, without, to_front, with_payload, placing, put, recycled}
 use Rattle.linked_hash_map.specs.Map.{IsMap, model_of, slot_of, slot_at}
 
@@ -130,6 +130,13 @@ pub record Recycling (ws : List ℕ) (m : LinkedHashMap) (k : ℕ) (x : Record) 
   pub map : IsMap ws m → IsMap ws' m'
   pub model : IsMap ws m → model_of ws' m' ≡ recycled k x (model_of ws m)
   pub kept : Kept m.capacity ws ws'
+
+-- the slot to which word i of the live ring's own node leads, and of a record's node
+unfoldable pub end_of : List ℕ → LinkedHashMap → ℕ → Result (Option ℕ) Unfit
+end_of ws m i = cond (map_fits m.capacity (length ws)) (Ok (slot_from m.capacity (get_or ws (5 * m.capacity + i) 0))) unfit
+
+unfoldable pub beside : List ℕ → LinkedHashMap → ℕ → ℕ → Result (Option ℕ) Unfit
+beside ws m s i = cond (map_fits m.capacity (length ws)) (Ok (cond (ltb s m.capacity) (slot_from m.capacity (get_or ws (5 * s + i) 0)) None)) unfit
 
 -- `first` and `last`: the ends of the order
 pub record Ending (ws : List ℕ) (m : LinkedHashMap) (i : ℕ) (r : Result (Option ℕ) Unfit) : Type 0 where

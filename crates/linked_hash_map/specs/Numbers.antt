@@ -34,9 +34,9 @@ pub record Grown (ws : List ℕ) (m : LinkedHashMap) (k : ℕ) (ws' : List ℕ) 
   pub opened : 1 ≤ r.refill_in
   pub words : ws' ≡ cond (ltb 1 m.refill_in) ws (refilled ws m.capacity k)
 
--- an insertion with the cell to take in hand; where there is no free record, nothing
+-- an insertion with the cell to take in hand; where there is no free record, it counts and writes nothing
 pub record Inserting (ws : List ℕ) (m : LinkedHashMap) (x : Record) (c : ℕ) (ws' : List ℕ) (r : LinkedHashMap) : Type 0 where
-  pub none : m.capacity ≤ next ws (m.capacity + 1) → (r ≡ m) × (ws' ≡ ws)
+  pub none : m.capacity ≤ next ws (m.capacity + 1) → (r ≡ longer_map m m.refill_in) × (ws' ≡ ws)
   pub grown : next ws (m.capacity + 1) < m.capacity → Grown (put_in ws m.capacity c (next ws (m.capacity + 1)) x) m (len_after m) ws' r
 
 -- a record put over the one at slot s, which no cell holds; where its key is held, that one is free
