@@ -125,7 +125,7 @@ pub record Renumbering (ws : List ℕ) (h : LazyMinHeap) (ws' : List ℕ) (h' : 
 -- `fit_number`
 pub record Fitting (ws : List ℕ) (h : LazyMinHeap) (ws' : List ℕ) (h' : LazyMinHeap) (d : ℕ) : Type 0 where
   pub word : h.seq < 2 ^ 64
-  pub same : (h.seq ≡ 2 ^ 64 - 1 → ⊥) → (h' ≡ h) × (ws' ≡ ws)
+  pub same : h.seq < 2 ^ 64 - 1 → (h' ≡ h) × (ws' ≡ ws)
   pub capacity : h'.scores.capacity ≡ h.scores.capacity
   pub factor : h'.factor ≡ h.factor
   pub parts : Parts ws h → Parts ws' h'
