@@ -4,7 +4,7 @@ use mathlib.Core.Bool.{Bool, true, false, true≢false}
 use Prim.Native.Nat.{ℕ, ◌<◌, ◌≤◌}
 use native.Mathlib.Decide.{ℕ_discrete, dec_le}
 use native.Mathlib.Omega.{arith}
-use lib.Dec.{leb, ltb}
+use lib.Dec.{ltb}
 use borrow.Author.Tests.{lt-ltb, le-ltb, le-leb, leb-true, leb-false, eq-eqb, ne_eqb}
 use Rattle.binary_heap.specs.declared.entries.Entry.{Entry}
 use Rattle.binary_heap.specs.Order.{lex, le}
@@ -50,19 +50,10 @@ lex_total x y r s k h = to_lex y x s (above (dec_le y x)) (λ e. k (sym (lex_sam
     above (yes l) = l
     above (no d) = absurd (true≢false (sym (lex_less x y r (omega arith)) ∙ h))
 
--- which number decides
-module _ (a b : Entry) where
-  pub by_score : (a.score ≡ b.score → ⊥) → ltb a.score b.score ≡ le a b
-  unfolding le
-  by_score d = lex_other _ _ _ d
-
-  pub by_seq : a.score ≡ b.score → (a.seq ≡ b.seq → ⊥) → ltb a.seq b.seq ≡ le a b
-  unfolding le
-  by_seq e d = lex_other _ _ _ d ∙ sym (lex_same _ _ _ e)
-
-  pub by_key : a.score ≡ b.score → a.seq ≡ b.seq → leb a.key b.key ≡ le a b
-  unfolding le
-  by_key e f = sym (lex_same _ _ _ e ∙ lex_same _ _ _ f)
+-- where the scores differ they decide
+pub by_score : (a b : Entry) → (a.score ≡ b.score → ⊥) → ltb a.score b.score ≡ le a b
+unfolding le
+by_score a b d = lex_other _ _ _ d
 
 -- the order, as facts on the numbers
 record Le (a b : Entry) : Type 0 where

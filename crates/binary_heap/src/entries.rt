@@ -3,7 +3,7 @@ ghost use Rattle.std.specs.Prelude.{◌≡◌, ◌+◌, ◌*◌, length};
 ghost use Rattle.binary_heap.specs.Order.{le, is_at_most};
 ghost use Rattle.binary_heap.specs.Entries.{entry_at, put_at, swap_at, Holds};
 
-#[derive(Clone, Copy, Default)]
+#[derive(Clone, Copy, Default, PartialEq, Eq, PartialOrd, Ord)]
 pub struct Entry {
     pub score: u64,
     pub seq: u64,
@@ -43,19 +43,6 @@ pub fn swap(words: &mut [u64], i: usize, j: usize)
     put(words, j, a);
 }
 
-// Whether a is not after b.
-fn precedes(a: Entry, b: Entry) -> bool
-    ensures { result ≡ le a b }
-{
-    if a.score != b.score {
-        return a.score < b.score;
-    }
-    if a.seq != b.seq {
-        return a.seq < b.seq;
-    }
-    a.key <= b.key
-}
-
 // Whether entry i is not after entry j. Most often the scores tell, and no other word is read.
 pub fn in_order(words: &[u64], i: usize, j: usize) -> bool
     requires { Holds (length words.now) i × Holds (length words.now) j }
@@ -66,7 +53,7 @@ pub fn in_order(words: &[u64], i: usize, j: usize) -> bool
     if a != b {
         return a < b;
     }
-    precedes(get(words, i), get(words, j))
+    get(words, i) <= get(words, j)
 }
 
 // 1 where entry i has at most this score, and else 0. No other word is read.
