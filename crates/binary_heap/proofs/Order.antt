@@ -74,6 +74,13 @@ module _ {a b : Entry} where
   unfolding le
   to_le l = to_lex _ _ _ l.scores (λ e. to_lex _ _ _ (l.seqs e) (λ f. le-leb _ _ (l.keys e f)))
 
+-- a score below, or no score above and a sequence number below
+pub le_by_score : (a b : Entry) → a.score < b.score → le a b ≡ true
+le_by_score a b h = to_le (record { scores = omega arith; seqs = λ e. absurd (omega arith); keys = λ e. absurd (omega arith) })
+
+pub le_by_seq : (a b : Entry) → a.score ≤ b.score → a.seq < b.seq → le a b ≡ true
+le_by_seq a b h n = to_le (record { scores = h; seqs = λ e. omega arith; keys = λ e f. absurd (omega arith) })
+
 pub le_scores : (a b : Entry) → le a b ≡ true → a.score ≤ b.score
 le_scores a b h = let l : Le a b = facts h in l.scores
 
