@@ -4,7 +4,6 @@ use mathlib.Core.Bool.{Bool, true, false, true≢false}
 use Prim.Native.Nat.{ℕ, ◌<◌, ◌≤◌}
 use native.Mathlib.Decide.{ℕ_discrete, dec_le}
 use native.Mathlib.Omega.{arith}
-use lib.Dec.{ltb}
 use borrow.Author.Tests.{lt-ltb, le-ltb, le-leb, leb-true, leb-false, eq-eqb, ne_eqb}
 use Rattle.binary_heap.specs.declared.entries.Entry.{Entry}
 use Rattle.binary_heap.specs.Order.{lex, le}
@@ -18,13 +17,6 @@ module _ (x y : ℕ) (r : Bool) where
 
   lex_more : y < x → lex x y r ≡ false
   lex_more h = rw (le-ltb x y (omega arith), ne_eqb x y (omega arith))
-
-  lex_other : (x ≡ y → ⊥) → ltb x y ≡ lex x y r
-  lex_other d = go (dec_le x y)
-    where
-      go : Dec (x ≤ y) → ltb x y ≡ lex x y r
-      go (yes l) = rw (lt-ltb x y (omega arith))
-      go (no l) = rw (le-ltb x y (omega arith), ne_eqb x y d)
 
   to_lex : x ≤ y → (x ≡ y → r ≡ true) → lex x y r ≡ true
   to_lex h k = go (ℕ_discrete x y)
@@ -49,11 +41,6 @@ lex_total x y r s k h = to_lex y x s (above (dec_le y x)) (λ e. k (sym (lex_sam
     above : Dec (y ≤ x) → y ≤ x
     above (yes l) = l
     above (no d) = absurd (true≢false (sym (lex_less x y r (omega arith)) ∙ h))
-
--- where the scores differ they decide
-pub by_score : (a b : Entry) → (a.score ≡ b.score → ⊥) → ltb a.score b.score ≡ le a b
-unfolding le
-by_score a b d = lex_other _ _ _ d
 
 -- the order, as facts on the numbers
 record Le (a b : Entry) : Type 0 where

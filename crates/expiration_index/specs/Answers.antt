@@ -1,6 +1,5 @@
 -- The heap's answers read as the index's.
-use Rattle.std.specs.Prelude.{ℕ, Option, Result, Ok, Err}
-use Rattle.std.specs.Option.{option_map}
+use Rattle.std.specs.Prelude.{ℕ, Option, option_map, Result, Ok, Err}
 use Rattle.time.specs.declared.tick.Tick.{Tick}
 use Rattle.time.specs.declared.refusal.Refusal.{Refusal}
 use Rattle.lazy_heap_model.specs.declared.counted.Counted.{Counted}

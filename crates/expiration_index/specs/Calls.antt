@@ -79,7 +79,7 @@ pub record Call {A : Type 0} (ws : List ℕ) (x : ExpirationIndex) (after : Pair
   pub limit : limit x' ≡ limit x
 
 -- `clear` answers how many entries it discarded
-abbrev emptied : Pairs → Pairs
+abbrev pub emptied : Pairs → Pairs
 emptied l = []
 
 pub record Clearing (ws : List ℕ) (x : ExpirationIndex) (ws' : List ℕ) (x' : ExpirationIndex) (r : Result ℕ Refusal) : Type 0 where
