@@ -6,8 +6,8 @@ use Prim.Native.Nat.{ℕ, ◌+◌, ◌-◌, ◌*◌, ◌≤◌}
 use native.Mathlib.Omega.{arith}
 use lib.ListN.{length}
 use borrow.Author.Tests.{eq-eqb, ne_eqb, lt-ltb, le-ltb, le-leb}
-use Rattle.std.specs.Prelude.{Option, Result, Ok, Err, IsOk, ⊤}
-use Rattle.std.proofs.lemmas.Result.{IfOk-at_ok}
+use Rattle.std.specs.Prelude.{Option, Result, Ok, Err, IsOk, IsErr, IsErrAnd, ⊤}
+use Rattle.std.proofs.lemmas.Result.{IfOk-at_ok, err_from_is_err_and}
 use Rattle.limits.specs.Limits.{map_fits, heap_limits, heap_limits_with}
 use Rattle.rings.proofs.Counts.{by_lt}
 use Rattle.binary_heap.specs.Heap as array
@@ -15,6 +15,7 @@ use Rattle.binary_heap.proofs.Laws.{heap_none, model_none}
 use Rattle.binary_heap.proofs.Laws.{model_length as array-length}
 use Rattle.linked_hash_map.specs.declared.map.LinkedHashMap.{LinkedHashMap}
 use Rattle.linked_hash_map.specs.declared.map.Unfit.{Unfit}
+use Rattle.cells.specs.declared.Probe.{Probe}
 use Rattle.linked_hash_map.specs.Model.{lookup}
 use Rattle.linked_hash_map.specs.Map.{IsMap}
 use Rattle.linked_hash_map.specs.Map as map
@@ -45,6 +46,10 @@ room_limits {n} {l} g = rw (ne_eqb n 0 (λ q. omega (arith, g.some)), le-ltb 409
 
 pub no_heap : {ws : List ℕ} {h : LazyMinHeap} {why : Refusal} → heap_limits h.scores.capacity (length ws) ≡ Err why → IsHeap ws h → ⊥
 no_heap e is = let done = room_limits is.parts.room in cc
+
+-- the error that a call hands on
+pub handed_on : {A : Type 0} {r : Result A Refusal} {why : Refusal} → IsErr r × IsErrAnd r (λ e. e ≡ why) → r ≡ Err why
+handed_on {r = r} q = let s = err_from_is_err_and r q.1 in s.1 ∙ ap Err s.2
 
 module _ (n l f : ℕ) where
   pub with_refused : {why : Refusal} → heap_limits n l ≡ Err why → Err why ≡ heap_limits_with n l f
@@ -193,11 +198,16 @@ factor_call ws h f t e =
     call_done t (λ is. record { room = is.parts.room; scores = is.parts.scores; entries = is.parts.entries }) (λ is. same_heap refl e refl refl refl) (λ is. fair_factor f (with_room_lem h.scores.capacity (length ws) f t).1 (fair_heap is)) refl
     (kept_same h.scores.capacity ws)
 
--- ---- opening and clearing
+-- ---- a place in the scores
 fits : {n l : ℕ} → Room l n → map_fits n l ≡ true
 unfolding map_fits
 fits {n} {l} g = rw (le-leb n 4096 g.limit, le-leb (8 * n + 58) l (omega (arith, g.words)))
 
+pub place_some : {ws : List ℕ} {m : LinkedHashMap} {k : ℕ} {r : Result Probe Unfit} → r ≡ scores.place_of ws m k → Room (length ws) m.capacity → IsOk r
+unfolding scores.place_of
+place_some e g = rw (e, fits g)
+
+-- ---- opening and clearing
 fair_opened : (n f s : ℕ) → f ≤ 8 → Fair (opened n f s)
 unfolding opened
 fair_opened n f s b = record { valid = valid_opened n f s; few = omega arith; factor = (omega arith, omega arith) }

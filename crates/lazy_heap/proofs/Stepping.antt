@@ -30,7 +30,7 @@ use Rattle.lazy_heap.specs.Heap.{held_of, entries_of, model_of, Parts}
 use Rattle.lazy_heap.specs.Steps.{replaced_score, Storing, Pushing, Rebuilding, Numbered, Renumbering, Fitting, Trimming, Holding}
 use Rattle.lazy_heap.proofs.Parts.{part_same}
 use Rattle.lazy_heap.proofs.Settling.{entered_same}
-use Rattle.lazy_heap.proofs.Refilling.{Refilling, Numbering}
+use Rattle.lazy_heap.proofs.Refilling.{Refilling, refilling_some, Numbering, numbering_some}
 
 abbrev of : ℕ → ℕ → ℕ → List Record → List Entry → Heap
 of l f n h e = record { limit = l; factor = f; next = n; held = h; entries = e }
@@ -64,6 +64,10 @@ rebuilding {ws} {h = h} f none = record {
   entries = λ p. f.filled (parts_emptied p) ∙ ap (λ (i : ℕ). sort (map entry_of (drop i (held_of ws h)))) (none p);
 }
 
+-- where it finds no slot, which it does on no parts
+pub rebuilding_lost : {ws ws' : List ℕ} {h h' : LazyMinHeap} {left : ℕ} {at : Result (Option ℕ) Unfit} → Refilling ws (emptied h) ws' h' left at → 0 < left → ((s : ℕ) → at ≡ Ok (Some s) → ⊥) → Rebuilding ws h ws' h'
+rebuilding_lost f more none = rebuilding f (λ p. absurd (refilling_some f more none (parts_emptied p)))
+
 -- ---- renumbering
 pub numbering : {ws ws' : List ℕ} {m : LinkedHashMap} {number left : ℕ} {at : Result (Option ℕ) Unfit} → Numbering ws m ws' number left at → (map.IsMap ws m → left ≡ 0) → Numbered ws m ws'
 numbering {ws} {ws'} {m} f none = record {
@@ -72,6 +76,9 @@ numbering {ws} {ws'} {m} f none = record {
   size = f.size;
   past = f.past;
 }
+
+pub numbering_lost : {ws ws' : List ℕ} {m : LinkedHashMap} {number left : ℕ} {at : Result (Option ℕ) Unfit} → Numbering ws m ws' number left at → 0 < left → ((s : ℕ) → at ≡ Ok (Some s) → ⊥) → Numbered ws m ws'
+numbering_lost f more none = numbering f (λ is. absurd (numbering_some f more none is))
 
 -- scores renumbered leave the entries as they are
 abbrev numbered_heap : LazyMinHeap → LazyMinHeap

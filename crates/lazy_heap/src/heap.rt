@@ -1,5 +1,5 @@
 // The heap's calls. A public call tests the limits, and its private steps may count on them.
-ghost use Rattle.std.specs.Prelude.{◌≡◌, ◌-◌, ◌^◌, ◌*◌, ◌+◌, length, ltb};
+ghost use Rattle.std.specs.Prelude.{◌≡◌, ◌-◌, ◌^◌, ◌*◌, ◌<◌, length, ltb};
 ghost use Rattle.linked_hash_map.specs.Calls.{place_of};
 ghost use Rattle.lazy_heap.specs.Words.{Room};
 ghost use Rattle.lazy_heap_model.specs.Model.{at_least_one, factor_of, len, heap_len, at_most};
@@ -69,9 +69,9 @@ fn take_key(map: &mut LinkedHashMap, words: &mut [u64], key: u64) -> Option<u64>
     requires { Room (length words.old) map.old.capacity }
     ensures { TakingKey words.old map.old key words.new map.new result }
 {
-    match map.seek(words, key) {
-        Ok(Probe::At(c, s)) => Some(map.take_at(words, c, s)),
-        _ => None,
+    match map.seek(words, key).unwrap() {
+        Probe::At(c, s) => Some(map.take_at(words, c, s)),
+        Probe::Free(_) | Probe::Full => None,
     }
 }
 
