@@ -1,12 +1,12 @@
 -- What the calls come to: refused, or a definition's answer on a heap, and a heap again.
 use mathlib.Core.Path.{◌≡◌, refl, sym, ap, ◌∙◌, subst}
-use mathlib.Core.Bool.{Bool, true, false, cond}
+use mathlib.Core.Bool.{Bool, true, false, true≢false, cond}
 use mathlib.Core.List.{List, []}
 use Prim.Native.Nat.{ℕ, ◌+◌, ◌-◌, ◌*◌, ◌≤◌}
 use native.Mathlib.Omega.{arith}
 use lib.ListN.{length}
 use borrow.Author.Tests.{eq-eqb, ne_eqb, lt-ltb, le-ltb, le-leb}
-use Rattle.std.specs.Prelude.{Option, Result, Ok, Err, IsOk, IsErr, IsErrAnd, ⊤}
+use Rattle.std.specs.Prelude.{Option, Result, Ok, Err, IsOk, IsErr, IsErrAnd, is_err, ⊤}
 use Rattle.std.proofs.lemmas.Result.{IfOk-at_ok, err_from_is_err_and}
 use Rattle.limits.specs.Limits.{map_fits, heap_limits, heap_limits_with}
 use Rattle.rings.proofs.Counts.{by_lt}
@@ -46,6 +46,15 @@ room_limits {n} {l} g = rw (ne_eqb n 0 (λ q. omega (arith, g.some)), le-ltb 409
 
 pub no_heap : {ws : List ℕ} {h : LazyMinHeap} {why : Refusal} → heap_limits h.scores.capacity (length ws) ≡ Err why → IsHeap ws h → ⊥
 no_heap e is = let done = room_limits is.parts.room in cc
+
+-- the same of a test
+pub ok_room : (n l : ℕ) {o : Result ⊤ Refusal} → o ≡ heap_limits n l → is_err o ≡ false → Room l n
+ok_room n l {o = Ok t} e q = limits_room n l (sym e)
+ok_room n l {o = Err why} e q = absurd (true≢false q)
+
+pub err_no_heap : {ws : List ℕ} {h : LazyMinHeap} (o : Result ⊤ Refusal) → o ≡ heap_limits h.scores.capacity (length ws) → is_err o ≡ true → IsHeap ws h → ⊥
+err_no_heap (Ok t) e q is = true≢false (sym q)
+err_no_heap (Err why) e q is = no_heap (sym e) is
 
 -- the error that a call hands on
 pub handed_on : {A : Type 0} {r : Result A Refusal} {why : Refusal} → IsErr r × IsErrAnd r (λ e. e ≡ why) → r ≡ Err why
@@ -203,9 +212,9 @@ fits : {n l : ℕ} → Room l n → map_fits n l ≡ true
 unfolding map_fits
 fits {n} {l} g = rw (le-leb n 4096 g.limit, le-leb (8 * n + 58) l (omega (arith, g.words)))
 
-pub place_some : {ws : List ℕ} {m : LinkedHashMap} {k : ℕ} {r : Result Probe Unfit} → r ≡ scores.place_of ws m k → Room (length ws) m.capacity → IsOk r
+pub place_some : (ws : List ℕ) (m : LinkedHashMap) (k : ℕ) {r : Result Probe Unfit} → r ≡ scores.place_of ws m k → Room (length ws) m.capacity → IsOk r
 unfolding scores.place_of
-place_some e g = rw (e, fits g)
+place_some ws m k e g = rw (e, fits g)
 
 -- ---- opening and clearing
 fair_opened : (n f s : ℕ) → f ≤ 8 → Fair (opened n f s)

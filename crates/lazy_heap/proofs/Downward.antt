@@ -5,6 +5,7 @@ use mathlib.Core.List.{List, [], ◌∷◌}
 use Prim.Native.Nat.{ℕ, suc, ◌+◌, ◌-◌, ◌<◌, ◌≤◌}
 use native.Mathlib.Omega.{arith}
 use lib.Dec.{leb}
+use mir.Val.{bool_byte}
 use lib.ListN.{get_or, drop, drop_of_length-le}
 use Rattle.std.specs.Prelude.{Option, Some, Result, Ok, min}
 use Rattle.rings.proofs.Counts.{by_lt}
@@ -63,6 +64,11 @@ counting_start score first = record { walk = walk_start first; few = omega arith
 count_cons : (score : ℕ) (x : Record) (l : List Record) → count_at_most score (x ∷ l) ≡ cond (leb x.first score) 1 0 + count_at_most score l
 unfolding count_at_most
 count_cons score x l = refl
+
+-- a test as a number
+pub one_if : (b : Bool) → bool_byte b ≡ cond b 1 0
+one_if true = refl
+one_if false = refl
 
 pub at_most_one : {d : ℕ} (a b : ℕ) → d ≡ cond (leb a b) 1 0 → d ≤ 1
 at_most_one {d} a b e = go (leb a b) e

@@ -1,6 +1,6 @@
 -- Stale entries leave from the top: what is left to discard, and what was, stay the same together.
 use mathlib.Core.Path.{◌≡◌, refl, sym, ap, ◌∙◌, subst}
-use mathlib.Core.Bool.{true, false, true≢false}
+use mathlib.Core.Bool.{Bool, true, false, true≢false}
 use mathlib.Core.List.{List, [], ◌∷◌}
 use Prim.Native.Nat.{ℕ, ◌+◌, ◌-◌, ◌<◌, ◌≤◌}
 use native.Mathlib.Omega.{arith}
@@ -8,6 +8,7 @@ use lib.Dec.{eqb}
 use lib.ListN.{length}
 use borrow.Author.Tests.{eq-eqb, ne_eqb}
 use Rattle.std.specs.Prelude.{Option, None, Some}
+use Rattle.std.specs.Bool.{then_some}
 use Rattle.binary_heap.specs.declared.entries.Entry.{Entry}
 use Rattle.binary_heap.specs.Heap.{first, rest}
 use Rattle.binary_heap.proofs.Laws.{model_length}
@@ -57,6 +58,10 @@ module _ {ws : List ℕ} {m : LinkedHashMap} {e : Entry} where
     found = λ is x q. cc;
     stale = λ is q. f is;
   }
+
+  pub living_flag : {s : ℕ} {flag : Bool} {r : Option ℕ} → (map.IsMap ws m → (live (map.model_of ws m) e ≡ flag) × (map.slot_of ws m e.key ≡ Some s)) → r ≡ then_some flag s → LivingAt ws m e r
+  living_flag {flag = true} f q = rw q (living_at f)
+  living_flag {flag = false} f q = rw q (living_none (λ is. (f is).0))
 
 -- ---- the first entry decides
 pub first_none : (es : List Entry) → first es ≡ None → es ≡ []
@@ -154,8 +159,8 @@ module _ {ws₀ ws : List ℕ} {h₀ h : LazyMinHeap} {d : ℕ} (s : Settling ws
       go p (Some e) q f = live_first held₀ es e q (ap (λ (l : List Record). live l e) (sym (s.entered.held p)) ∙ sym (f ∙ ap (settled_by ws h) q))
       go p None q f = none_left held₀ es (first_none es q)
 
-  pub settled_empty : h₀.entries ≤ d → Discarding ws₀ h₀ ws h d
-  settled_empty z = ended (λ p. none_left held₀ es (no_entries es (model_length (part h.scores.capacity ws) h.entries ∙ omega (arith, s.left p))))
+  pub settled_empty : d ≡ h₀.entries → Discarding ws₀ h₀ ws h h₀.entries
+  settled_empty z = subst (λ (n : ℕ). Discarding ws₀ h₀ ws h n) z (ended (λ p. none_left held₀ es (no_entries es (model_length (part h.scores.capacity ws) h.entries ∙ omega (arith, s.left p)))))
 
 -- the limits hold after a step as before
 pub room_entered : {ws ws' : List ℕ} {h r : LazyMinHeap} → Entered ws h ws' r → Room (length ws) h.scores.capacity → Room (length ws') r.scores.capacity

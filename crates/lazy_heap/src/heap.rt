@@ -84,7 +84,12 @@ fn best_of(top: Option<Entry>) -> Option<(u64, u64)>
 impl LazyMinHeap {
     // ---- opening, and the factor
 
-    pub fn open(words: &mut [u64], limit: usize, factor: usize, seq: u64) -> Result<LazyMinHeap, Refusal>
+    pub fn open(
+        words: &mut [u64],
+        limit: usize,
+        factor: usize,
+        seq: u64,
+    ) -> Result<LazyMinHeap, Refusal>
         ensures { Opening words.old limit factor seq words.new result }
     {
         limits::heap_with_factor(limit, words.len(), factor)?;
@@ -157,7 +162,12 @@ impl LazyMinHeap {
     }
 
     // Holds a score for a key, in the place of the old one, which is the answer.
-    pub fn update(&mut self, words: &mut [u64], key: u64, score: u64) -> Result<Counted<Option<u64>>, Refusal>
+    pub fn update(
+        &mut self,
+        words: &mut [u64],
+        key: u64,
+        score: u64,
+    ) -> Result<Counted<Option<u64>>, Refusal>
         ensures { Updating words.old self.old key score words.new self.new result }
     {
         limits::heap(self.scores.capacity, words.len())?;
@@ -183,10 +193,7 @@ impl LazyMinHeap {
         limits::heap(self.scores.capacity, words.len())?;
         let discarded = self.settle(words);
         let answer = best_of(self.top(words));
-        Ok(Counted {
-            answer,
-            discarded,
-        })
+        Ok(Counted { answer, discarded })
     }
 
     pub fn pop_best(&mut self, words: &mut [u64]) -> Result<Counted<Option<(u64, u64)>>, Refusal>
@@ -210,7 +217,11 @@ impl LazyMinHeap {
     }
 
     // The same, where that key's score is at most this one. Else it answers that there is none, and the key stays.
-    pub fn pop_at_most(&mut self, words: &mut [u64], score: u64) -> Result<Counted<Option<(u64, u64)>>, Refusal>
+    pub fn pop_at_most(
+        &mut self,
+        words: &mut [u64],
+        score: u64,
+    ) -> Result<Counted<Option<(u64, u64)>>, Refusal>
         ensures { PoppingAtMost words.old self.old score words.new self.new result }
     {
         limits::heap(self.scores.capacity, words.len())?;
@@ -289,7 +300,8 @@ impl LazyMinHeap {
         if self.factor == 0 || 8 < self.factor || 8 * self.scores.capacity < self.entries {
             return false;
         }
-        self.scores.check(words) && binary_heap::is_heap(&words[layout::entries(self.scores.capacity)], self.entries)
+        self.scores.check(words)
+            && binary_heap::is_heap(&words[layout::entries(self.scores.capacity)], self.entries)
     }
 
     // Scores and entries go together.
@@ -308,14 +320,21 @@ impl LazyMinHeap {
         requires { Room (length words.old) self.old.scores.capacity }
         ensures { Pushing words.old self.old entry words.new self.new }
     {
-        binary_heap::push(&mut words[layout::entries(self.scores.capacity)], &mut self.entries, entry);
+        binary_heap::push(
+            &mut words[layout::entries(self.scores.capacity)],
+            &mut self.entries,
+            entry,
+        );
     }
 
     fn pop(&mut self, words: &mut [u64])
         requires { Room (length words.old) self.old.scores.capacity }
         ensures { Popping words.old self.old words.new self.new }
     {
-        binary_heap::pop(&mut words[layout::entries(self.scores.capacity)], &mut self.entries);
+        binary_heap::pop(
+            &mut words[layout::entries(self.scores.capacity)],
+            &mut self.entries,
+        );
     }
 
     fn top(self, words: &[u64]) -> Option<Entry>
@@ -330,7 +349,11 @@ impl LazyMinHeap {
         requires { Room (length words.now) self.scores.capacity }
         ensures { CountingEntries words.now self score result }
     {
-        binary_heap::count_at_most(&words[layout::entries(self.scores.capacity)], self.entries, score)
+        binary_heap::count_at_most(
+            &words[layout::entries(self.scores.capacity)],
+            self.entries,
+            score,
+        )
     }
 
     // Whether an entry's score and number are those that its key holds.
@@ -514,7 +537,12 @@ impl LazyMinHeap {
         answer
     }
 
-    fn update_within(&mut self, words: &mut [u64], key: u64, score: u64) -> Result<Counted<Option<u64>>, Refusal>
+    fn update_within(
+        &mut self,
+        words: &mut [u64],
+        key: u64,
+        score: u64,
+    ) -> Result<Counted<Option<u64>>, Refusal>
         requires { Room (length words.old) self.old.scores.capacity }
         ensures { Updating words.old self.old key score words.new self.new result }
     {

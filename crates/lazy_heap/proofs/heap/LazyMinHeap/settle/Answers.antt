@@ -16,3 +16,6 @@ pop-requires c = room_entered c.loop-discarded.invariant.entered c.requires
 
 pub loop-discarded-preserved : goal.loop-discarded-preserved
 loop-discarded-preserved c = settling_on c.loop-discarded.invariant (rw c.if-is_settled.false at c.is_settled.ensures) c.pop.ensures
+
+pub returns : goal.returns
+returns c = settled_empty c.loop-discarded.invariant (omega arith)

@@ -4,7 +4,7 @@ use Rattle.lazy_heap.proofs.Updating.{over_full, place_kept, updating, updating_
 use Rattle.lazy_heap.proofs.heap.LazyMinHeap.update_within.Goals as goal
 
 pub unwrap-place-requires : goal.unwrap-place-requires
-unwrap-place-requires c = place_some c.seek.ensures c.requires
+unwrap-place-requires c = place_some _ _ _ c.seek.ensures c.requires
 
 pub returns-then-is_over : goal.returns-then-is_over
 returns-then-is_over c = updating_full (λ p. over_full _ _ (sym c.seek.ensures ∙ c.unwrap-place.ensures) p ∙ sym c.is_over.ensures ∙ c.if-is_over.true) c.requires
