@@ -86,6 +86,20 @@ factor_updated k s m = rebuilds (too_many m.factor (pushed k s (before_push m)))
 index_after : {ws ws' : List ℕ} {x x' : ExpirationIndex} {m : Heap} → IsIndex ws x → IsHeap ws' x'.heap → heap_of ws' x' ≡ m → m.factor ≡ x.heap.factor → IsIndex ws' x'
 index_after is h e f = record { heap = h; factor = ap (λ (m : Heap). m.factor) e ∙ f ∙ is.factor }
 
+-- read as it is
+itself : {A : Type 0} (r : Result A Refusal) → reading (λ a. a) r ≡ r
+itself (Ok a) = refl
+itself (Err why) = refl
+
+-- refusal 4 comes in the place of the answer
+told_full : (b : Bool) (s : Option ℕ) (d : ℕ) → reading (within deadline_in) (cond b (Err KeyLimitReached) (Ok (counted s d))) ≡ beside d (cond b (Err KeyLimitReached) (Ok (deadline_in s)))
+told_full true s d = refl
+told_full false s d = refl
+
+-- the best read as the next due, beside the same count
+due_told : {r : Result (Counted (Option (ℕ × ℕ))) Refusal} {best : Option (ℕ × ℕ)} {due : Option (ℕ × Tick)} {d : ℕ} → r ≡ Ok (counted best d) → due_in best ≡ due → reading (within due_in) r ≡ Ok (counted due d)
+due_told {d = d} e q = ap (reading (within due_in)) e ∙ ap (λ (t : Option (ℕ × Tick)). Ok (counted t d)) q
+
 -- ---- opening
 with_two : (d l : ℕ) → heap_limits_with d l 2 ≡ heap_limits d l
 with_two d l = go (heap_limits d l) refl
@@ -171,10 +185,6 @@ module _ {ws ws' : List ℕ} {x : ExpirationIndex} {h : LazyMinHeap} where
       done : IsIndex ws x → limits_in ws x ≡ Ok tt
       done is = room_limits is.heap.parts.room
 
-  itself : {A : Type 0} (r : Result A Refusal) → reading (λ a. a) r ≡ r
-  itself (Ok a) = refl
-  itself (Err why) = refl
-
   pub clearing : {r : Result ℕ Refusal} → heap.Clearing ws x.heap ws' h r → Clearing ws x ws' (index_of h) r
   unfolding cleared
   clearing {r} o = record {
@@ -190,21 +200,17 @@ module _ {ws ws' : List ℕ} {x : ExpirationIndex} {h : LazyMinHeap} where
     answer = λ is. ap (reading (within deadline_in)) (o.answer is.heap) ∙ ap (λ (d : Option Tick). Ok (counted d 0)) (deadline_pairs k (heap_of ws x).held is.heap.valid.keys);
   }
 
-  -- the best read as the next due, with the count of the stale entries before it
-  due_told : {best : Heap → Option (ℕ × ℕ)} {due : Option (ℕ × Tick)} {r : Result (Counted (Option (ℕ × ℕ))) Refusal} → r ≡ Ok (counted (best (heap_of ws x)) (stale (heap_of ws x))) → due_in (best (heap_of ws x)) ≡ due → reading (within due_in) r ≡ Ok (counted due (stale (heap_of ws x)))
-  due_told e q = ap (reading (within due_in)) e ∙ ap (λ (d : Option (ℕ × Tick)). Ok (counted d (stale (heap_of ws x)))) q
-
   pub looking : {r : Result (Counted (Option (ℕ × ℕ))) Refusal} → heap.PeekingBest ws x.heap ws' h r → NextDeadline ws x ws' (index_of h) (reading (within due_in) r)
   unfolding peeked
   looking o = record {
     call = call (within due_in) o.call (λ is. deadlines_peeked (heap_of ws x)) refl;
-    answer = λ is. due_told {best = best_of_heap} (o.answer is.heap) (best_due (heap_of ws x) is.heap.valid);
+    answer = λ is. due_told (o.answer is.heap) (best_due (heap_of ws x) is.heap.valid);
   }
 
   pub popping : {t : Tick} {r : Result (Counted (Option (ℕ × ℕ))) Refusal} → heap.PoppingAtMost ws x.heap t.0 ws' h r → PoppingExpired ws x t ws' (index_of h) (reading (within due_in) r)
   popping {t} {r} o = record {
     call = record { outcome = c.outcome; refused = c.refused; index = c.index; model = c.model; heap = λ is. c.heap is ∙ left is; kept = c.kept; limit = c.limit };
-    answer = λ is. due_told {best = heap.best_at_most t.0} (o.answer is.heap) (expired_due_lem t (heap_of ws x) is.heap.valid);
+    answer = λ is. due_told (o.answer is.heap) (expired_due_lem t (heap_of ws x) is.heap.valid);
   }
     where
       left : IsIndex ws x → popped_at_most t.0 (heap_of ws x) ≡ popped_expired t (heap_of ws x)
@@ -212,11 +218,6 @@ module _ {ws ws' : List ℕ} {x : ExpirationIndex} {h : LazyMinHeap} where
 
       c : Call ws x (without_expired t) (popped_at_most t.0) ws' (index_of h) (reading (within due_in) r)
       c = call (within due_in) o.call (λ is. ap deadlines (left is) ∙ expired_pairs t (heap_of ws x) is.heap.valid) (factor_at_most t.0 (heap_of ws x))
-
-  -- refusal 4 comes in the place of the answer
-  told_full : (b : Bool) (s : Option ℕ) (d : ℕ) → reading (within deadline_in) (cond b (Err KeyLimitReached) (Ok (counted s d))) ≡ beside d (cond b (Err KeyLimitReached) (Ok (deadline_in s)))
-  told_full true s d = refl
-  told_full false s d = refl
 
   pub setting : {k : ℕ} {t : Tick} {r : Result (Counted (Option ℕ)) Refusal} → heap.Updating ws x.heap k t.0 ws' h r → x.heap.seq < 2 ^ 64 → Setting ws x k t ws' (index_of h) (reading (within deadline_in) r)
   unfolding deadlines
