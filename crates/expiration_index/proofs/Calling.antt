@@ -8,6 +8,7 @@ use native.Mathlib.Omega.{arith}
 use lib.Dec.{eqb, leb}
 use lib.ListN.{length}
 use Rattle.std.specs.Prelude.{Option, Some, None, is_some, Result, Ok, Err, ⊤}
+use Rattle.std.specs.Result.{result_map_both}
 use Rattle.limits.specs.Limits.{heap_limits, heap_limits_with}
 use Rattle.time.specs.declared.tick.Tick.{Tick}
 use Rattle.time.specs.declared.refusal.Refusal.{Refusal}
@@ -35,8 +36,7 @@ use Rattle.expiration_index.proofs.Nexts.{best_due, expired_due_lem, expired_hea
 -- ---- an answer read
 -- the value of an answer, read by f, with a refusal as it is
 abbrev pub reading : {A B : Type 0} → (A → B) → Result A Refusal → Result B Refusal
-reading f (Ok a) = Ok (f a)
-reading f (Err why) = Err why
+reading f r = result_map_both f (λ e. e) r
 
 -- and of one with a count
 abbrev pub within : {A B : Type 0} → (A → B) → Counted A → Counted B
@@ -86,6 +86,20 @@ factor_updated k s m = rebuilds (too_many m.factor (pushed k s (before_push m)))
 index_after : {ws ws' : List ℕ} {x x' : ExpirationIndex} {m : Heap} → IsIndex ws x → IsHeap ws' x'.heap → heap_of ws' x' ≡ m → m.factor ≡ x.heap.factor → IsIndex ws' x'
 index_after is h e f = record { heap = h; factor = ap (λ (m : Heap). m.factor) e ∙ f ∙ is.factor }
 
+-- read as it is
+itself : {A : Type 0} (r : Result A Refusal) → reading (λ a. a) r ≡ r
+itself (Ok a) = refl
+itself (Err why) = refl
+
+-- refusal 4 comes in the place of the answer
+told_full : (b : Bool) (s : Option ℕ) (d : ℕ) → reading (within deadline_in) (cond b (Err KeyLimitReached) (Ok (counted s d))) ≡ beside d (cond b (Err KeyLimitReached) (Ok (deadline_in s)))
+told_full true s d = refl
+told_full false s d = refl
+
+-- the best read as the next due, beside the same count
+due_told : {r : Result (Counted (Option (ℕ × ℕ))) Refusal} {best : Option (ℕ × ℕ)} {due : Option (ℕ × Tick)} {d : ℕ} → r ≡ Ok (counted best d) → due_in best ≡ due → reading (within due_in) r ≡ Ok (counted due d)
+due_told {d = d} e q = ap (reading (within due_in)) e ∙ ap (λ (t : Option (ℕ × Tick)). Ok (counted t d)) q
+
 -- ---- opening
 with_two : (d l : ℕ) → heap_limits_with d l 2 ≡ heap_limits d l
 with_two d l = go (heap_limits d l) refl
@@ -102,15 +116,15 @@ factor_opened d s = omega arith
 abbrev pub index_of : LazyMinHeap → ExpirationIndex
 index_of h = record { heap = h }
 
-pub opening : {ws ws' : List ℕ} {d s : ℕ} {r : Result LazyMinHeap Refusal} → heap.Opening ws d 2 s ws' r → Opening ws d s ws' (reading index_of r)
-opening {ws} {ws'} {d} {s} {r} o = record {
+pub opening : {ws ws' : List ℕ} {d s : ℕ} {r : Result LazyMinHeap Refusal} {a : Result ExpirationIndex Refusal} → heap.Opening ws d 2 s ws' r → a ≡ reading index_of r → Opening ws d s ws' a
+opening {ws} {ws'} {d} {s} {r} o e = rw e (record {
   outcome = reading_outcome index_of r ∙ o.outcome ∙ with_two d (length ws);
   refused = λ why q. o.refused why (reading_refused index_of r q);
   index = λ x q. record { heap = o.heap x.heap (opened_as x q); factor = ap (λ (m : Heap). m.factor) (o.model x.heap (opened_as x q)) ∙ factor_opened d s };
   model = λ x q. ap deadlines (o.model x.heap (opened_as x q)) ∙ deadlines_opened d 2 s;
   heap = λ x q. o.model x.heap (opened_as x q);
   kept = o.kept;
-}
+})
   where
     opened_as : (x : ExpirationIndex) → reading index_of r ≡ Ok x → r ≡ Ok x.heap
     opened_as x q = go r q
@@ -141,13 +155,13 @@ module _ {ws : List ℕ} {x : ExpirationIndex} where
   pub emptiness : {r : Result Bool Refusal} → heap.Asking ws x.heap heap.is_empty r → Emptiness ws x r
   emptiness o = asked (ap (λ (n : ℕ). eqb n 0) (sym (deadlines_length (heap_of ws x)))) o
 
-  pub containing : (k : ℕ) {r : Result (Option ℕ) Refusal} → heap.Asking ws x.heap (score_of k) r → Containing ws x k (reading is_some r)
+  pub containing : (k : ℕ) {r : Result (Option ℕ) Refusal} {a : Result Bool Refusal} → heap.Asking ws x.heap (score_of k) r → a ≡ reading is_some r → Containing ws x k a
   unfolding deadlines
-  containing k o = asking is_some (λ is. held_pairs k (heap_of ws x).held) o
+  containing k o e = rw e (asking is_some (λ is. held_pairs k (heap_of ws x).held) o)
 
-  pub deadline_told : (k : ℕ) {r : Result (Option ℕ) Refusal} → heap.Asking ws x.heap (score_of k) r → DeadlineOf ws x k (reading deadline_in r)
+  pub deadline_told : (k : ℕ) {r : Result (Option ℕ) Refusal} {a : Result (Option Tick) Refusal} → heap.Asking ws x.heap (score_of k) r → a ≡ reading deadline_in r → DeadlineOf ws x k a
   unfolding deadlines
-  deadline_told k o = asking deadline_in (λ is. deadline_pairs k (heap_of ws x).held is.heap.valid.keys) o
+  deadline_told k o e = rw e (asking deadline_in (λ is. deadline_pairs k (heap_of ws x).held is.heap.valid.keys) o)
 
   pub checking : {b : Bool} → x.heap.factor ≡ 2 → heap.Checking ws x.heap b → Checking ws x b
   checking f o = record { sound = λ q. record { heap = o.sound q; factor = f }; complete = λ is. o.complete is.heap }
@@ -171,10 +185,6 @@ module _ {ws ws' : List ℕ} {x : ExpirationIndex} {h : LazyMinHeap} where
       done : IsIndex ws x → limits_in ws x ≡ Ok tt
       done is = room_limits is.heap.parts.room
 
-  itself : {A : Type 0} (r : Result A Refusal) → reading (λ a. a) r ≡ r
-  itself (Ok a) = refl
-  itself (Err why) = refl
-
   pub clearing : {r : Result ℕ Refusal} → heap.Clearing ws x.heap ws' h r → Clearing ws x ws' (index_of h) r
   unfolding cleared
   clearing {r} o = record {
@@ -182,30 +192,26 @@ module _ {ws ws' : List ℕ} {x : ExpirationIndex} {h : LazyMinHeap} where
     answer = λ is. o.answer (room_limits is.heap.parts.room) is.heap;
   }
 
-  pub removing : {k : ℕ} {r : Result (Counted (Option ℕ)) Refusal} → heap.Removing ws x.heap k ws' h r → Removing ws x k ws' (index_of h) (reading (within deadline_in) r)
+  pub removing : {k : ℕ} {r : Result (Counted (Option ℕ)) Refusal} {a : Result (Counted (Option Tick)) Refusal} → heap.Removing ws x.heap k ws' h r → a ≡ reading (within deadline_in) r → Removing ws x k ws' (index_of h) a
   unfolding removed deadlines
-  removing {k} o = record {
+  removing {k} o e = rw e (record {
     call = call (within deadline_in) o.call (λ is. deadlines_removed k (heap_of ws x)) refl;
     numbers = o.numbers;
     answer = λ is. ap (reading (within deadline_in)) (o.answer is.heap) ∙ ap (λ (d : Option Tick). Ok (counted d 0)) (deadline_pairs k (heap_of ws x).held is.heap.valid.keys);
-  }
+  })
 
-  -- the best read as the next due, with the count of the stale entries before it
-  due_told : {best : Heap → Option (ℕ × ℕ)} {due : Option (ℕ × Tick)} {r : Result (Counted (Option (ℕ × ℕ))) Refusal} → r ≡ Ok (counted (best (heap_of ws x)) (stale (heap_of ws x))) → due_in (best (heap_of ws x)) ≡ due → reading (within due_in) r ≡ Ok (counted due (stale (heap_of ws x)))
-  due_told e q = ap (reading (within due_in)) e ∙ ap (λ (d : Option (ℕ × Tick)). Ok (counted d (stale (heap_of ws x)))) q
-
-  pub looking : {r : Result (Counted (Option (ℕ × ℕ))) Refusal} → heap.PeekingBest ws x.heap ws' h r → NextDeadline ws x ws' (index_of h) (reading (within due_in) r)
+  pub looking : {r : Result (Counted (Option (ℕ × ℕ))) Refusal} {a : Result (Counted (Option (ℕ × Tick))) Refusal} → heap.PeekingBest ws x.heap ws' h r → a ≡ reading (within due_in) r → NextDeadline ws x ws' (index_of h) a
   unfolding peeked
-  looking o = record {
+  looking o e = rw e (record {
     call = call (within due_in) o.call (λ is. deadlines_peeked (heap_of ws x)) refl;
-    answer = λ is. due_told {best = best_of_heap} (o.answer is.heap) (best_due (heap_of ws x) is.heap.valid);
-  }
+    answer = λ is. due_told (o.answer is.heap) (best_due (heap_of ws x) is.heap.valid);
+  })
 
-  pub popping : {t : Tick} {r : Result (Counted (Option (ℕ × ℕ))) Refusal} → heap.PoppingAtMost ws x.heap t.0 ws' h r → PoppingExpired ws x t ws' (index_of h) (reading (within due_in) r)
-  popping {t} {r} o = record {
+  pub popping : {t : Tick} {r : Result (Counted (Option (ℕ × ℕ))) Refusal} {a : Result (Counted (Option (ℕ × Tick))) Refusal} → heap.PoppingAtMost ws x.heap t.0 ws' h r → a ≡ reading (within due_in) r → PoppingExpired ws x t ws' (index_of h) a
+  popping {t} {r} o e = rw e (record {
     call = record { outcome = c.outcome; refused = c.refused; index = c.index; model = c.model; heap = λ is. c.heap is ∙ left is; kept = c.kept; limit = c.limit };
-    answer = λ is. due_told {best = heap.best_at_most t.0} (o.answer is.heap) (expired_due_lem t (heap_of ws x) is.heap.valid);
-  }
+    answer = λ is. due_told (o.answer is.heap) (expired_due_lem t (heap_of ws x) is.heap.valid);
+  })
     where
       left : IsIndex ws x → popped_at_most t.0 (heap_of ws x) ≡ popped_expired t (heap_of ws x)
       left is = expired_heap t (heap_of ws x) is.heap.valid
@@ -213,14 +219,9 @@ module _ {ws ws' : List ℕ} {x : ExpirationIndex} {h : LazyMinHeap} where
       c : Call ws x (without_expired t) (popped_at_most t.0) ws' (index_of h) (reading (within due_in) r)
       c = call (within due_in) o.call (λ is. ap deadlines (left is) ∙ expired_pairs t (heap_of ws x) is.heap.valid) (factor_at_most t.0 (heap_of ws x))
 
-  -- refusal 4 comes in the place of the answer
-  told_full : (b : Bool) (s : Option ℕ) (d : ℕ) → reading (within deadline_in) (cond b (Err KeyLimitReached) (Ok (counted s d))) ≡ beside d (cond b (Err KeyLimitReached) (Ok (deadline_in s)))
-  told_full true s d = refl
-  told_full false s d = refl
-
-  pub setting : {k : ℕ} {t : Tick} {r : Result (Counted (Option ℕ)) Refusal} → heap.Updating ws x.heap k t.0 ws' h r → x.heap.seq < 2 ^ 64 → Setting ws x k t ws' (index_of h) (reading (within deadline_in) r)
+  pub setting : {k : ℕ} {t : Tick} {r : Result (Counted (Option ℕ)) Refusal} {a : Result (Counted (Option Tick)) Refusal} → heap.Updating ws x.heap k t.0 ws' h r → a ≡ reading (within deadline_in) r → x.heap.seq < 2 ^ 64 → Setting ws x k t ws' (index_of h) a
   unfolding deadlines
-  setting {k} {t} {r} o word = record {
+  setting {k} {t} {r} o e word = rw e (record {
     outcome = ⊎_elim (λ q. inl (reading_outcome (within deadline_in) r ∙ q)) (λ q. inr (q.0, ap (reading (within deadline_in)) q.1)) o.outcome;
     refused = λ why q. let n = o.refused why (reading_refused (within deadline_in) r q) in (ap index_of n.0, n.1);
     answer = λ is. ap (reading (within deadline_in)) (o.answer is.heap) ∙ told_full (lazy.is_full k (heap_of ws x)) (score_of k (heap_of ws x)) (update_discards k t.0 (heap_of ws x)) ∙ rw (full_deadlines k (heap_of ws x), sym (deadline_pairs k (heap_of ws x).held is.heap.valid.keys));
@@ -230,7 +231,7 @@ module _ {ws ws' : List ℕ} {x : ExpirationIndex} {h : LazyMinHeap} where
     word = word;
     kept = o.kept;
     limit = o.capacity;
-  }
+  })
     where
       room : is_full (limit x) k (model_of ws x) ≡ false → lazy.is_full k (heap_of ws x) ≡ false
       room new = sym (full_deadlines k (heap_of ws x)) ∙ new

@@ -1,6 +1,6 @@
 -- Taking one expired deadline after the other: each is held and expired, and when there is no next one all are gone.
 use mathlib.Core.Path.{◌≡◌, refl, sym, ap, ◌∙◌}
-use mathlib.Core.Bool.{Bool, true, false, true≢false, cond, ◌||◌}
+use mathlib.Core.Bool.{Bool, true, false, true≢false, cond, ◌||◌, or-true}
 use mathlib.Core.Logic.{⊎_elim}
 use mathlib.Core.List.{[], ◌∷◌, Memᴰ}
 use mathlib.Core.List.Memᴰ.{cases_cons}
@@ -71,14 +71,10 @@ module _ (t : Tick) where
 mem_has : (l : Pairs) (p : Pair) → Memᴰ p l → has p.key l ≡ true
 unfolding has
 mem_has [] p m = absurd (not-nil m)
-mem_has (x ∷ l) p m = ⊎_elim here (λ i. rw (mem_has l p i) (any (eqb x.key p.key))) (cases_cons m)
+mem_has (x ∷ l) p m = ⊎_elim here (λ i. rw (mem_has l p i) (or-true (eqb x.key p.key))) (cases_cons m)
   where
     here : p ≡ x → has p.key (x ∷ l) ≡ true
     here e = rw (eq-eqb x.key p.key (ap (λ (q : Pair). q.key) (sym e)))
-
-    any : (b : Bool) → (b || true) ≡ true
-    any true = refl
-    any false = refl
 
 pub without_missing : (k : ℕ) (l : Pairs) → has k l ≡ false → without k l ≡ l
 unfolding has without

@@ -78,7 +78,7 @@ module _ {ws ws' : List ℕ} {x x' : ExpirationIndex} (is : IsIndex ws x) where
     entries_set = ap heap_len (o.heap is new)
 
     discarded_set : c.discarded ≡ update_discards k t.0 (heap_of ws x)
-    discarded_set = count_in (o.answer is ∙ rw new)
+    discarded_set = count_in {a = deadline_of k (model_of ws x)} (o.answer is ∙ rw new)
 
     pub setting_accounts : c.discarded + heap_len (heap_of ws' x') ≡ heap_len (heap_of ws x) + 1
     setting_accounts =

@@ -1,6 +1,6 @@
 -- The heap's records read as pairs, in the other direction: what the heap does to its records is done to the pairs.
 use mathlib.Core.Path.{◌≡◌, refl, sym, ap, ◌∙◌}
-use mathlib.Core.Bool.{Bool, true, false, true≢false, cond, ◌||◌}
+use mathlib.Core.Bool.{Bool, true, false, true≢false, cond, ◌||◌, or-true, or-false}
 use mathlib.Core.List.{[], ◌∷◌, ◌++◌, append-nil}
 use Prim.Native.Nat.{ℕ, ◌+◌, ◌-◌, ◌^◌}
 use native.Mathlib.Omega.{arith}
@@ -21,12 +21,6 @@ use Rattle.expiration_index.specs.Answers.{tick, deadline_in}
 use Rattle.expiration_index.specs.Index.{pair_of, pairs, deadlines}
 
 -- ---- lists of pairs, one behind the other
-or_swap : (a b : Bool) → (a || b) ≡ (b || a)
-or_swap true true = refl
-or_swap true false = refl
-or_swap false true = refl
-or_swap false false = refl
-
 module _ (k : ℕ) where
   pub has_append : (l m : Pairs) → has k (l ++ m) ≡ (has k l || has k m)
   unfolding has
@@ -81,8 +75,8 @@ has_pairs k [] = refl
 has_pairs k (r ∷ l) = has_append k (pairs l) (pair_of r ∷ []) ∙ go (eqb r.key k) (has_pairs k l)
   where
     go : (b : Bool) → has k (pairs l) ≡ held.has k l → (has k (pairs l) || (b || false)) ≡ (b || held.has k l)
-    go true ih = or_swap (has k (pairs l)) true
-    go false ih = or_swap (has k (pairs l)) false ∙ ih
+    go true ih = or-true (has k (pairs l))
+    go false ih = or-false (has k (pairs l)) ∙ ih
 
 pub without_pairs : (k : ℕ) (l : held.Model) → pairs (held.without k l) ≡ without k (pairs l)
 unfolding pairs held.without without

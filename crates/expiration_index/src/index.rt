@@ -27,6 +27,18 @@ fn due_in(best: Option<(u64, u64)>) -> Option<(u64, Tick)>
     best.map(|(key, deadline)| (key, Tick(deadline)))
 }
 
+// An answer read, beside the same number of discarded entries.
+fn read<T, U, F: FnOnce(T) -> U>(told: Counted<T>, f: F) -> Counted<U>
+    requires { F.pre f told.answer }
+    ensures answer { F.post f told.answer result.answer }
+    ensures discarded { result.discarded ≡ told.discarded }
+{
+    Counted {
+        answer: f(told.answer),
+        discarded: told.discarded,
+    }
+}
+
 impl ExpirationIndex {
     // More entries than so many for each key held are not kept.
     const DEFAULT_REBUILD_FACTOR: usize = 2;
@@ -35,17 +47,20 @@ impl ExpirationIndex {
     pub fn open(words: &mut [u64], limit: usize, seq: u64) -> Result<ExpirationIndex, Refusal>
         ensures { Opening words.old limit seq words.new result }
     {
-        let heap = LazyMinHeap::open(words, limit, ExpirationIndex::DEFAULT_REBUILD_FACTOR, seq)?;
-        Ok(ExpirationIndex { heap })
+        LazyMinHeap::open(words, limit, ExpirationIndex::DEFAULT_REBUILD_FACTOR, seq).map(
+            |heap| ExpirationIndex { heap },
+        )
     }
 
     // The keys that hold a deadline.
+    #[tactic(auto, using(crate::proofs::Calling::length_asked))]
     pub fn len(self, words: &[u64]) -> Result<usize, Refusal>
         ensures { Length words.now self result }
     {
         self.heap.len(words)
     }
 
+    #[tactic(auto, using(crate::proofs::Calling::emptiness))]
     pub fn is_empty(self, words: &[u64]) -> Result<bool, Refusal>
         ensures { Emptiness words.now self result }
     {
@@ -60,6 +75,7 @@ impl ExpirationIndex {
     }
 
     // The next sequence number stays. Answers how many entries it discards.
+    #[tactic(auto, using(crate::proofs::Calling::clearing))]
     pub fn clear(&mut self, words: &mut [u64]) -> Result<usize, Refusal>
         ensures { Clearing words.old self.old words.new self.new result }
     {
@@ -75,45 +91,44 @@ impl ExpirationIndex {
     ) -> Result<Counted<Option<Tick>>, Refusal>
         ensures { Setting words.old self.old key deadline words.new self.new result }
     {
-        let replaced = self.heap.update(words, key, deadline.0)?;
-        Ok(Counted {
-            answer: deadline_in(replaced.answer),
-            discarded: replaced.discarded,
-        })
+        // Read so that the contract may say that the next sequence number is a word.
+        let _seq = self.heap.seq;
+        self.heap
+            .update(words, key, deadline.0)
+            .map(|replaced| read(replaced, deadline_in))
     }
 
     pub fn deadline_of(self, words: &[u64], key: u64) -> Result<Option<Tick>, Refusal>
         ensures { DeadlineOf words.now self key result }
     {
-        Ok(deadline_in(self.heap.score_of(words, key)?))
+        self.heap.score_of(words, key).map(deadline_in)
     }
 
     pub fn contains(self, words: &[u64], key: u64) -> Result<bool, Refusal>
         ensures { Containing words.now self key result }
     {
-        Ok(self.heap.score_of(words, key)?.is_some())
+        self.heap.score_of(words, key).map(|score| score.is_some())
     }
 
     // Answers the deadline that goes. Its entry stays, stale.
     pub fn remove(&mut self, words: &mut [u64], key: u64) -> Result<Counted<Option<Tick>>, Refusal>
         ensures { Removing words.old self.old key words.new self.new result }
     {
-        let removed = self.heap.remove(words, key)?;
-        Ok(Counted {
-            answer: deadline_in(removed.answer),
-            discarded: removed.discarded,
-        })
+        self.heap
+            .remove(words, key)
+            .map(|removed| read(removed, deadline_in))
     }
 
     // The least deadline, of equal ones that set first. Stale entries before it are discarded.
-    pub fn next_deadline(&mut self, words: &mut [u64]) -> Result<Counted<Option<(u64, Tick)>>, Refusal>
+    pub fn next_deadline(
+        &mut self,
+        words: &mut [u64],
+    ) -> Result<Counted<Option<(u64, Tick)>>, Refusal>
         ensures { NextDeadline words.old self.old words.new self.new result }
     {
-        let peeked = self.heap.peek_best(words)?;
-        Ok(Counted {
-            answer: due_in(peeked.answer),
-            discarded: peeked.discarded,
-        })
+        self.heap
+            .peek_best(words)
+            .map(|peeked| read(peeked, due_in))
     }
 
     // Takes the next deadline, if it has come at `tick`.
@@ -124,14 +139,13 @@ impl ExpirationIndex {
     ) -> Result<Counted<Option<(u64, Tick)>>, Refusal>
         ensures { PoppingExpired words.old self.old tick words.new self.new result }
     {
-        let popped = self.heap.pop_at_most(words, tick.0)?;
-        Ok(Counted {
-            answer: due_in(popped.answer),
-            discarded: popped.discarded,
-        })
+        self.heap
+            .pop_at_most(words, tick.0)
+            .map(|popped| read(popped, due_in))
     }
 
     // How many deadlines have come at `tick`.
+    #[tactic(auto, using(crate::proofs::Calling::expired_asked))]
     pub fn expired_count(self, words: &[u64], tick: Tick) -> Result<usize, Refusal>
         ensures { ExpiredCount words.now self tick result }
     {
