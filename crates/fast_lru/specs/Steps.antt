@@ -17,6 +17,14 @@ nth (suc i) (x ∷ l) = nth i l
 abbrev pub taking : Option Record → Option Item
 taking o = option_map item_of o
 
+-- a step of a call that may change the list: what it answers on one, and which model it leaves
+pub record Stepping {A : Type 0} (ws : List ℕ) (l : FastLru) (answer_of : Items → A) (left_of : Items → Items) (ws' : List ℕ) (l' : FastLru) (a : A) : Type 0 where
+  pub answer : IsMap ws l.map → a ≡ answer_of (model_of ws l)
+  pub capacity : l'.map.capacity ≡ l.map.capacity
+  pub map : IsMap ws l.map → IsMap ws' l'.map
+  pub model : IsMap ws l.map → model_of ws' l' ≡ left_of (model_of ws l)
+  pub kept : words.Kept l.map.capacity ws ws'
+
 -- `value_at`: the value at a slot, which a key or a place has
 pub record ValueAt (ws : List ℕ) (l : FastLru) (x r : Option ℕ) : Type 0 where
   pub nothing : x ≡ None → r ≡ None
@@ -31,19 +39,15 @@ pub record Picking (ws : List ℕ) (l : FastLru) (r : Option (ℕ × ℕ)) : Typ
 pub record Choosing (ws : List ℕ) (l : FastLru) (r : Option (ℕ × ℕ)) : Type 0 where
   pub answer : IsMap ws l.map → r ≡ item_in (victim (model_of ws l))
 
+-- `place`
+abbrev pub Placing : List ℕ → FastLru → Record → List ℕ → FastLru → Option ℕ → Type 0
+Placing ws l x ws' l' r = Stepping ws l (value_of x.key) (inserted l.map.capacity (item_of x)) ws' l' r
+
 -- `place_evicting`: a new key in a full list
 pub record PlacingFull (ws : List ℕ) (l : FastLru) (x : Record) (ws' : List ℕ) (l' : FastLru) : Type 0 where
   pub capacity : l'.map.capacity ≡ l.map.capacity
   pub map : IsMap ws l.map → IsMap ws' l'.map
   pub model : IsMap ws l.map → has x.key (model_of ws l) ≡ false → l.map.capacity ≤ length (model_of ws l) → model_of ws' l' ≡ inserted l.map.capacity (item_of x) (model_of ws l)
-  pub kept : words.Kept l.map.capacity ws ws'
-
--- `place`
-pub record Placing (ws : List ℕ) (l : FastLru) (x : Record) (ws' : List ℕ) (l' : FastLru) (r : Option ℕ) : Type 0 where
-  pub answer : IsMap ws l.map → r ≡ value_of x.key (model_of ws l)
-  pub capacity : l'.map.capacity ≡ l.map.capacity
-  pub map : IsMap ws l.map → IsMap ws' l'.map
-  pub model : IsMap ws l.map → model_of ws' l' ≡ inserted l.map.capacity (item_of x) (model_of ws l)
   pub kept : words.Kept l.map.capacity ws ws'
 
 -- `rank_between`: the walks from the first item's slot and from the last one's
