@@ -44,9 +44,9 @@ pub opening_fits : (c size : ℕ) → list_limits c size ≡ Ok tt → Fits c si
 unfolding list_limits
 opening_fits c size e = go (ltb 4096 c) refl (ltb size (words_for c)) refl e
   where
-    go : (a : Bool) → ltb 4096 c ≡ a → (b : Bool) → ltb size (words_for c) ≡ b → cond a (Err LimitOutOfRange) (cond b (Err TooFewWords) (Ok tt)) ≡ Ok tt → Fits c size
-    go true p b q t = absurd (done t refl)
-    go false p true q t = absurd (done t refl)
+    go : (a : Bool) → ltb 4096 c ≡ a → (b : Bool) → ltb size (words_for c) ≡ b → ◌≡◌ {A = Result ⊤ Refusal} (cond a (Err LimitOutOfRange) (cond b (Err TooFewWords) (Ok tt))) (Ok tt) → Fits c size
+    go true p b q t = cc
+    go false p true q t = cc
     go false p false q t = record { limit = ltb-false _ _ p; words = ltb-false _ _ q }
 
 pub admitted_fits : (l : FastLru) (size : ℕ) → admitted l size ≡ Ok tt → Fits l.map.capacity size
@@ -54,7 +54,7 @@ unfolding admitted
 admitted_fits l size e = go (out_of_range l) e
   where
     go : (a : Bool) → cond a (Err LimitOutOfRange) (list_limits l.map.capacity size) ≡ Ok tt → Fits l.map.capacity size
-    go true t = absurd (done t refl)
+    go true t = cc
     go false t = opening_fits _ _ t
 
 -- what fits the list fits the map

@@ -9,7 +9,7 @@ use linked_hash_map::{LinkedHashMap, Record};
 use time::Refusal;
 
 // The list's numbers; the items are in the words.
-#[derive(Clone, Copy, Default, PartialEq, Eq)]
+#[derive(Clone, Copy, Default)]
 pub struct FastLru {
     pub map: LinkedHashMap,
 }
@@ -28,12 +28,15 @@ impl FastLru {
     }
 
     // A capacity above the limit, or numbers that are all 0, as `default` makes them.
+    #[tactic(auto, unfolding(crate::specs::Refusals::out_of_range))]
     fn out_of_range(self) -> bool
         ensures { result ≡ out_of_range self }
     {
-        MAX_CAPACITY < self.map.capacity || self == FastLru::default()
+        let map = self.map;
+        MAX_CAPACITY < map.capacity || (map.capacity == 0 && map.len == 0 && map.refill_in == 0)
     }
 
+    #[tactic(auto, unfolding(crate::specs::Refusals::admitted))]
     fn admitted(self, size: usize) -> Result<(), Refusal>
         ensures { result ≡ admitted self size }
     {
