@@ -87,7 +87,7 @@ unfolding model_of to_front nth value_of
 front_value ws l k r e = rw (lookup_items k (map.model_of ws l.map), e)
 
 module _ (ws : List ℕ) (l : FastLru) where
-  pub clearing : (ws' : List ℕ) (m' : LinkedHashMap) (r : Result ⊤ Unfit) → calls.Clearing ws l.map ws' m' r → Stepping ws l (λ m. tt) (λ m. []) ws' (record { map = m' }) tt
+  pub clearing : (ws' : List ℕ) (m' : LinkedHashMap) (r : Result ⊤ Unfit) → calls.Clearing ws l.map ws' m' r → Stepping {A = ⊤} ws l (λ m. tt) (λ m. []) ws' (record { map = m' }) tt
   unfolding model_of
   clearing ws' m' r o = record { answer = λ is. refl; capacity = o.capacity; map = o.map; model = λ is. ap items (o.model is); kept = o.kept }
 

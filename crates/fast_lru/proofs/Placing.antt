@@ -119,16 +119,16 @@ case_of ws m x is = go (laws.keyed ws m x.key)
     go (laws.held s r a b h) = case_over m.capacity x (map.model_of ws m) r (omega (arith, putting.model_length ws m, is.count)) b h
     go (laws.absent a b h) = case_new m.capacity x (map.model_of ws m) b h
 
-module _ (ws : List ℕ) (l : FastLru) (x : Record) (ws' : List ℕ) (m' : LinkedHashMap) where
+module _ (ws : List ℕ) (l : FastLru) (x : Record) (ws' : List ℕ) where
   abbrev The : Type 0
   The = Case l.map.capacity x (map.model_of ws l.map)
 
   the : IsMap ws l.map → The
   the is = case_of ws l.map x is
 
-  pub placing_over : (old : Record) → Putting ws l.map x ws' m' (Ok (Some old)) → Placing ws l x ws' (record { map = m' }) (Some old.first)
+  pub placing_over : (m' : LinkedHashMap) (old : Record) → Putting ws l.map x ws' m' (Ok (Some old)) → Placing ws l x ws' (record { map = m' }) (Some old.first)
   unfolding model_of
-  placing_over old p = record {
+  placing_over m' old p = record {
     answer = λ is. value is (the is);
     capacity = p.capacity;
     map = p.map;
@@ -146,9 +146,9 @@ module _ (ws : List ℕ) (l : FastLru) (x : Record) (ws' : List ℕ) (m' : Linke
       left is (new e v m) = m
       left is (full e v h f) = cc (p.answer is)
 
-  pub placing_new : Putting ws l.map x ws' m' (Ok None) → Placing ws l x ws' (record { map = m' }) None
+  pub placing_new : (m' : LinkedHashMap) → Putting ws l.map x ws' m' (Ok None) → Placing ws l x ws' (record { map = m' }) None
   unfolding model_of
-  placing_new p = record {
+  placing_new m' p = record {
     answer = λ is. value is (the is);
     capacity = p.capacity;
     map = p.map;

@@ -39,8 +39,8 @@ module _ (ws : List ℕ) (l : FastLru) (k : ℕ) where
   unfolding rank_of
   rank_none bare = sym (rank_nowhere 0 k (model_of ws l) bare)
 
-  pub walks_begin : (s t : ℕ) → slot_at ws l.map 0 ≡ Some s → slot_at ws l.map (l.map.len - 1) ≡ Some t → Walks ws l k s t 0 l.map.len
-  walks_begin s t e f = record {
+  pub walks_begin : (s t j : ℕ) → j ≡ l.map.len → slot_at ws l.map 0 ≡ Some s → slot_at ws l.map (l.map.len - 1) ≡ Some t → Walks ws l k s t 0 j
+  walks_begin s t j r e f = record {
     front = e;
     back = λ p q. let last : p ≡ l.map.len - 1 = omega arith in rw last f;
     between = λ p x b n m. omega (arith, model_length ws l);
@@ -101,8 +101,8 @@ module _ (ws : List ℕ) (l : FastLru) (k : ℕ) where
               let r : (i < p) × (p < j - 1) = inside p y h n m in
               omega (arith, laws.place_below ws l.map (j - 1) t last, place_past ws l (j - 2) (before (j - 2) (omega arith) ∙ e)))
 
-          pub walks_on : (a b : ℕ) → slot_in u ≡ Some a → slot_in z ≡ Some b → Walks ws l k a b (i + 1) (j - 1)
-          walks_on a b e f = record { front = after ∙ e; back = λ p q. before p q ∙ f; between = λ p y h n m. omega (arith, inside p y h n m) }
+          pub walks_on : (a b n : ℕ) → n + 1 ≡ j → slot_in u ≡ Some a → slot_in z ≡ Some b → Walks ws l k a b (i + 1) n
+          walks_on a b n d e f = record { front = after ∙ e; back = λ p q. before p (omega arith) ∙ f; between = λ p y h m o. omega (arith, inside p y h m o) }
 
   -- a missing key has no rank, and is not walked for
   pub rank_missing : (x : Result (Option ℕ) Unfit) → calls.Finding ws l.map k x → slot_in x ≡ None → RankOf ws l k None

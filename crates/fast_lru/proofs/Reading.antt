@@ -6,7 +6,8 @@ use Prim.Native.Nat.{ℕ, ◌-◌, ◌<◌, ◌≤◌}
 use native.Mathlib.Omega.{arith}
 use lib.Dec.{eqb}
 use lib.ListN.{length}
-use Rattle.std.specs.Prelude.{Option, Some, None, Result, Ok, Err, is_some}
+use Rattle.std.specs.Prelude.{Option, Some, None, Result, Ok, Err, IsErr, IsErrAnd, is_some, ⊤}
+use Rattle.std.proofs.lemmas.Result.{err_from_is_err_and}
 use Rattle.time.specs.declared.refusal.Refusal.{Refusal}
 use Rattle.linked_hash_map.specs.declared.map.Unfit.{Unfit}
 use Rattle.linked_hash_map.specs.Map.{IsMap, slot_of, slot_at}
@@ -24,6 +25,10 @@ module _ {ws : List ℕ} {l : FastLru} where
   -- ---- refused
   pub asking_refused : {A : Type 0} {answer_of : Items → A} {why : Refusal} → admitted l (length ws) ≡ Err why → Asking ws l answer_of (Err why)
   asking_refused p = record { refused = λ w e. cc; only = λ w e. cc; answer = λ is. absurd (done (list_admitted is) p) }
+
+  -- the same at the exit of a `?`
+  pub asking_exit : {A : Type 0} {answer_of : Items → A} {o : Result ⊤ Refusal} {why : Refusal} {r : Result A Refusal} → o ≡ admitted l (length ws) → o ≡ Err why → IsErr r × IsErrAnd r (λ e. e ≡ why) → Asking ws l answer_of r
+  asking_exit {r = r} a p q = let s = err_from_is_err_and r q.1 in rw (s.1, s.2) (asking_refused (sym a ∙ p))
 
   pub capacity_refused : {why : Refusal} → admitted l (length ws) ≡ Err why → Capacity ws l (Err why)
   capacity_refused p = record { refused = λ w e. cc; only = λ w e. cc; answer = λ d. absurd (done d p) }

@@ -75,7 +75,7 @@ pub record Checking (ws : List ℕ) (l : FastLru) (r : Bool) : Type 0 where
 -- ---- the calls that may change the list
 -- `clear`: words that are no list need not become one: that is what `new` does
 abbrev pub Clearing : List ℕ → FastLru → List ℕ → FastLru → Result ⊤ Refusal → Type 0
-Clearing ws l ws' l' r = Changing ws l (λ m. tt) (λ m. []) ws' l' r
+Clearing ws l ws' l' r = Changing {A = ⊤} ws l (λ m. tt) (λ m. []) ws' l' r
 
 -- `get`
 abbrev pub Getting : List ℕ → FastLru → ℕ → List ℕ → FastLru → Result (Option ℕ) Refusal → Type 0

@@ -19,6 +19,7 @@ const MAX_CAPACITY: usize = 4096;
 // The map refuses nothing that the list has admitted, so its refusals are never met: where one would be, there is no slot.
 impl FastLru {
     // The empty list, in words of any contents.
+    #[tactic(auto, using(crate::proofs::Changing::opening_refused, crate::proofs::Changing::opening_fits_map, crate::proofs::Changing::opening_done))]
     pub fn new(words: &mut [u64], capacity: usize) -> Result<FastLru, Refusal>
         ensures { Opening words.old capacity words.new result }
     {
@@ -46,6 +47,7 @@ impl FastLru {
         limits::list(self.map.capacity, size)
     }
 
+    #[tactic(auto, using(crate::proofs::Limits::list_admitted, crate::proofs::Slots::model_length))]
     pub fn len(self, words: &[u64]) -> Result<usize, Refusal>
         ensures { Length words.now self result }
     {
@@ -53,6 +55,7 @@ impl FastLru {
         Ok(self.map.len)
     }
 
+    #[tactic(auto, using(crate::proofs::Limits::list_admitted, crate::proofs::Slots::model_length))]
     pub fn is_empty(self, words: &[u64]) -> Result<bool, Refusal>
         ensures { Emptiness words.now self result }
     {
@@ -67,6 +70,7 @@ impl FastLru {
         Ok(self.map.capacity)
     }
 
+    #[tactic(auto, using(crate::proofs::Limits::list_admitted, crate::proofs::Slots::has_slot))]
     pub fn contains(self, words: &[u64], key: u64) -> Result<bool, Refusal>
         ensures { Containing words.now self key result }
     {
@@ -76,6 +80,7 @@ impl FastLru {
     }
 
     // The value at a slot.
+    #[tactic(auto, using(crate::proofs::Slots::value_at, crate::proofs::Slots::value_at_none))]
     fn value_at(self, words: &[u64], slot: Option<usize>) -> Option<u64>
         ensures { ValueAt words.now self slot result }
     {
@@ -84,6 +89,7 @@ impl FastLru {
     }
 
     // Moves the item to the front.
+    #[tactic(auto, using(crate::proofs::Limits::list_admitted))]
     pub fn get(&mut self, words: &mut [u64], key: u64) -> Result<Option<u64>, Refusal>
         ensures { Getting words.old self.old key words.new self.new result }
     {
@@ -93,6 +99,7 @@ impl FastLru {
     }
 
     // Moves nothing.
+    #[tactic(auto, using(crate::proofs::Limits::list_admitted, crate::proofs::Reading::peeking))]
     pub fn peek(self, words: &[u64], key: u64) -> Result<Option<u64>, Refusal>
         ensures { Peeking words.now self key result }
     {
@@ -102,7 +109,13 @@ impl FastLru {
     }
 
     // Puts the item at the front, and answers the key's old value. A new key in a full list pushes another item out.
-    pub fn insert(&mut self, words: &mut [u64], key: u64, value: u64) -> Result<Option<u64>, Refusal>
+    #[tactic(auto, using(crate::proofs::Limits::list_admitted))]
+    pub fn insert(
+        &mut self,
+        words: &mut [u64],
+        key: u64,
+        value: u64,
+    ) -> Result<Option<u64>, Refusal>
         ensures { Inserting words.old self.old (record { key = key; value = value }) words.new self.new result }
     {
         self.admitted(words.len())?;
@@ -137,6 +150,7 @@ impl FastLru {
     }
 
     // A new key in a full list takes the place of another. With no capacity there is none, and nothing is stored.
+    #[tactic(auto, using(crate::proofs::Placing::placing_full, crate::proofs::Placing::placing_nothing))]
     fn place_evicting(&mut self, words: &mut [u64], item: Record)
         ensures { PlacingFull words.old self.old item words.new self.new }
     {
@@ -146,24 +160,31 @@ impl FastLru {
     }
 
     // The item that makes room for another.
+    #[tactic(auto, using(crate::proofs::Slots::choosing))]
     fn victim(self, words: &[u64]) -> Option<(u64, u64)>
         ensures { Choosing words.now self result }
     {
         self.oldest(words)
     }
 
+    #[tactic(auto, using(crate::proofs::Limits::list_admitted))]
     pub fn remove(&mut self, words: &mut [u64], key: u64) -> Result<Option<u64>, Refusal>
         ensures { Removing words.old self.old key words.new self.new result }
     {
         self.admitted(words.len())?;
-        let Ok(Probe::At(cell, slot)) = self.map.seek(words, key) else {
-            return Ok(None);
-        };
-        let value = self.map.take_at(words, cell, slot);
-        Ok(Some(value))
+        match self.map.seek(words, key) {
+            Ok(Probe::At(cell, slot)) => {
+                let value = self.map.take_at(words, cell, slot);
+                Ok(Some(value))
+            }
+            Ok(Probe::Free(_)) => Ok(None),
+            Ok(Probe::Full) => Ok(None),
+            Err(_) => Ok(None),
+        }
     }
 
     // Takes the least recent item out.
+    #[tactic(auto, using(crate::proofs::Limits::list_admitted))]
     pub fn pop_lru(&mut self, words: &mut [u64]) -> Result<Option<(u64, u64)>, Refusal>
         ensures { Popping words.old self.old words.new self.new result }
     {
@@ -176,6 +197,7 @@ impl FastLru {
     }
 
     // The least recent item, which stays.
+    #[tactic(auto, using(crate::proofs::Limits::list_admitted))]
     pub fn peek_lru(self, words: &[u64]) -> Result<Option<(u64, u64)>, Refusal>
         ensures { PeekingOldest words.now self result }
     {
@@ -183,6 +205,7 @@ impl FastLru {
         Ok(self.oldest(words))
     }
 
+    #[tactic(auto, using(crate::proofs::Slots::picking, crate::proofs::Slots::picking_none))]
     fn oldest(self, words: &[u64]) -> Option<(u64, u64)>
         ensures { Picking words.now self result }
     {
@@ -191,6 +214,7 @@ impl FastLru {
         Some((record.key, record.first))
     }
 
+    #[tactic(auto, using(crate::proofs::Limits::list_admitted))]
     pub fn clear(&mut self, words: &mut [u64]) -> Result<(), Refusal>
         ensures { Clearing words.old self.old words.new self.new result }
     {
@@ -200,6 +224,7 @@ impl FastLru {
     }
 
     // Moves the item to the front, and says whether there is one.
+    #[tactic(auto, using(crate::proofs::Limits::list_admitted))]
     pub fn touch(&mut self, words: &mut [u64], key: u64) -> Result<bool, Refusal>
         ensures { Touching words.old self.old key words.new self.new result }
     {
@@ -209,6 +234,7 @@ impl FastLru {
     }
 
     // How many items are more recent than the key's.
+    #[tactic(auto, using(crate::proofs::Limits::list_admitted))]
     pub fn recency_rank(self, words: &[u64], key: u64) -> Result<Option<usize>, Refusal>
         ensures { Ranking words.now self key result }
     {
@@ -217,6 +243,7 @@ impl FastLru {
     }
 
     // From both ends at once: two walks side by side take no longer than one, and the shorter has half the way at most.
+    #[tactic(auto, using(crate::proofs::Ranks::rank_missing, crate::proofs::Ranks::rank_no_end, crate::proofs::Ranks::rank_ends))]
     fn rank_of(self, words: &[u64], key: u64) -> Option<usize>
         ensures { RankOf words.now self key result }
     {
@@ -252,6 +279,7 @@ impl FastLru {
     }
 
     // Whether words and numbers form a list.
+    #[tactic(auto, using(crate::proofs::Reading::checking, crate::proofs::Limits::list_admitted))]
     pub fn check(self, words: &[u64]) -> bool
         ensures { Checking words.now self result }
     {
