@@ -26,4 +26,4 @@ mod tell;
 pub use answer::{Answer, Code};
 pub use call::{Call, call_at, room, store_answer};
 pub use layer::{Layer, replay};
-pub use tell::Tell;
+pub use tell::{Tell, opened};

@@ -16,7 +16,7 @@ pub trait Tell {
 }
 
 impl Tell for () {
-    ghost told = { λ _ d. answers.done d };
+    ghost told = { told.of_done };
 
     fn tell(self, discarded: u64) -> Answer {
         Answer::done(discarded)
@@ -99,5 +99,15 @@ impl<T: Tell, E: Tell> Tell for Result<T, E> {
             Ok(x) => x.tell(discarded),
             Err(why) => why.tell(discarded),
         }
+    }
+}
+
+// What an opening tells: that it is done, or why it is refused.
+pub fn opened<T: Drop, E: Tell>(opening: Result<T, E>) -> Answer
+    ensures { result ≡ told.of_result told.of_done E.told opening 0 }
+{
+    match opening {
+        Ok(_) => Answer::done(0),
+        Err(why) => why.tell(0),
     }
 }
