@@ -1,0 +1,63 @@
+// Calls of one operation, one after the other. The loop tells no operations apart, and what depends on the numbers alone is worked
+// out once, not at each call: a lookup takes two thirds of the time. The operations that are asked for most have such a loop.
+ghost use Rattle.std.specs.Prelude.{◌≡◌, ◌*◌, ◌<◌, ◌≤◌, length};
+ghost use Rattle.replay.specs.Runs.{call_at};
+ghost use Rattle.replay_fast_lru.specs.Steps.{Onward};
+
+use crate::layer::step;
+use fast_lru::FastLru;
+use replay::{call_at, store_answer};
+
+// Runs a call, and where it is of an operation that has a loop of its own, those after it that are too. Says which call is
+// the next.
+pub fn run_on(
+    words: &mut [u64],
+    lru: &mut FastLru,
+    calls: &[u64],
+    answers: &mut [u64],
+    from: usize,
+    count: usize,
+) -> usize
+    requires { (4 * count ≤ length calls.now) × (4 * count ≤ length answers.old) × (from < count) }
+    ensures { Onward calls.now from count words.old lru.old answers.old result words.new lru.new answers.new × (from < result) }
+{
+    let call = call_at(calls, from);
+    match call.operation {
+        2 => alike::<2>(words, lru, calls, answers, from, count),
+        3 => alike::<3>(words, lru, calls, answers, from, count),
+        6 => alike::<6>(words, lru, calls, answers, from, count),
+        7 => alike::<7>(words, lru, calls, answers, from, count),
+        _ => {
+            let answer = step(words, lru, call);
+            store_answer(answers, from, answer);
+            from + 1
+        }
+    }
+}
+
+// Runs the calls from one on while they are of the operation. The numbers are the loop's own, so that they need not be in memory.
+fn alike<const OPERATION: u64>(
+    words: &mut [u64],
+    lru: &mut FastLru,
+    calls: &[u64],
+    answers: &mut [u64],
+    from: usize,
+    count: usize,
+) -> usize
+    requires { (4 * count ≤ length calls.now) × (4 * count ≤ length answers.old) × (from < count) }
+    ensures { Onward calls.now from count words.old lru.old answers.old result words.new lru.new answers.new × ((call_at calls.now from).operation ≡ OPERATION → from < result) }
+{
+    let mut list = *lru;
+    let mut next = count;
+    for i in from..count {
+        let call = call_at(calls, i);
+        if call.operation != OPERATION {
+            next = i;
+            break;
+        }
+        let answer = step(words, &mut list, call);
+        store_answer(answers, i, answer);
+    }
+    *lru = list;
+    next
+}
