@@ -1,14 +1,14 @@
 // The index as a layer: its numbers, and what each call does.
-ghost use Rattle.std.specs.Prelude.{◌≡◌, ◌<◌, ◌≤◌};
+ghost use Rattle.std.specs.Prelude.{◌<◌, ◌≤◌};
 ghost use Rattle.replay.specs.Runs.{Replayed};
 ghost use Rattle.replay_expiration_index.specs.Laws.{index_stored, index_past};
-ghost use Rattle.replay_expiration_index.specs.Numbers.{index_in, with_index, opened};
+ghost use Rattle.replay_expiration_index.specs.Numbers.{index_in, with_index};
 ghost use Rattle.replay_expiration_index.specs.Steps.{Ran};
 
 use expiration_index::ExpirationIndex;
 use replay::{Answer, Call, Layer, Tell, replay};
 use replay_lazy_heap::{heap_in, of_counted, of_discarded, store_heap};
-use time::{Refusal, Tick};
+use time::Tick;
 
 struct Index;
 
@@ -61,13 +61,6 @@ pub extern "C" fn expiration_index_replay(
     replay::<Index>(numbers, words, calls, answers)
 }
 
-// The numbers after an opening, which are all 0 where it is refused.
-fn opened(opening: Result<ExpirationIndex, Refusal>) -> ExpirationIndex
-    ensures { result ≡ opened opening }
-{
-    opening.unwrap_or_default()
-}
-
 fn write(words: &mut [u64], index: &mut ExpirationIndex, call: Call) -> Answer
     requires { call.operation < 6 }
     ensures { Ran words.old index.old call words.new index.new result }
@@ -77,7 +70,7 @@ fn write(words: &mut [u64], index: &mut ExpirationIndex, call: Call) -> Answer
     match call.operation {
         0 => {
             let opening = ExpirationIndex::open(words, first as usize, second);
-            *index = opened(opening);
+            *index = opening.unwrap_or_default();
             replay::opened(opening)
         }
         1 => of_discarded(index.clear(words)),

@@ -1,15 +1,14 @@
 // The list as a layer: its numbers, and what each call does.
-ghost use Rattle.std.specs.Prelude.{◌≡◌, ◌<◌, ◌≤◌};
+ghost use Rattle.std.specs.Prelude.{◌<◌, ◌≤◌};
 ghost use Rattle.replay.specs.Runs.{Replayed};
 ghost use Rattle.replay_fast_lru.specs.Laws.{lru_stored, lru_past};
-ghost use Rattle.replay_fast_lru.specs.Numbers.{lru_in, with_lru, opened};
+ghost use Rattle.replay_fast_lru.specs.Numbers.{lru_in, with_lru};
 ghost use Rattle.replay_fast_lru.specs.Steps.{Ran};
 
 use crate::runs;
 use fast_lru::FastLru;
 use replay::{Answer, Call, Layer, Tell, replay};
 use replay_linked_hash_map::{map_in, store_map};
-use time::Refusal;
 
 struct List;
 
@@ -65,13 +64,6 @@ pub extern "C" fn fast_lru_replay(
     replay::<List>(numbers, words, calls, answers)
 }
 
-// The numbers after an opening, which are all 0 where it is refused.
-fn opened(opening: Result<FastLru, Refusal>) -> FastLru
-    ensures { result ≡ opened opening }
-{
-    opening.unwrap_or_default()
-}
-
 // One call. A loop over calls of one operation takes it in whole, and only that operation's arm is left.
 #[inline(always)]
 pub fn step(words: &mut [u64], lru: &mut FastLru, call: Call) -> Answer
@@ -93,7 +85,7 @@ fn write(words: &mut [u64], lru: &mut FastLru, call: Call) -> Answer
     match call.operation {
         0 => {
             let opening = FastLru::new(words, key as usize);
-            *lru = opened(opening);
+            *lru = opening.unwrap_or_default();
             replay::opened(opening)
         }
         1 => lru.clear(words).tell(0),

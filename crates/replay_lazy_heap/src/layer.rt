@@ -69,7 +69,7 @@ fn write(words: &mut [u64], heap: &mut LazyMinHeap, call: Call) -> Answer
     match call.operation {
         0 => {
             let opening = LazyMinHeap::open(words, first as usize, second as usize, call.third);
-            *heap = numbers::opened(opening);
+            *heap = opening.unwrap_or_default();
             replay::opened(opening)
         }
         1 => heap.set_auto_rebuild(words, first as usize).tell(0),

@@ -66,7 +66,7 @@ fn write(words: &mut [u64], map: &mut LinkedHashMap, call: Call) -> Answer
     match call.operation {
         0 => {
             let opening = LinkedHashMap::open(words, key as usize);
-            *map = numbers::opened(opening);
+            *map = opening.unwrap_or_default();
             opening.is_ok().tell(0)
         }
         1 => map.clear(words).is_ok().tell(0),

@@ -1,11 +1,14 @@
 -- Each arm is the step of its operation, with what the list's call ensures. The last arm's operation is 6, since it is
 -- below 7 and none of the others.
-use Rattle.std.proofs.Common.{arith}
+use Rattle.std.proofs.Common.{◌≡◌, rules, arith}
+use Rattle.replay_fast_lru.specs.Numbers as numbers
 use Rattle.replay_fast_lru.specs.Steps.{opened, cleared, inserted, gotten, removed, popped, touched}
 use Rattle.replay_fast_lru.proofs.layer.write.Goals as goal
 
 pub returns-in-0 : goal.returns-in-0
-returns-in-0 c = rw (c.opened-in-0.ensures, c.opened.ensures) (opened c.in-0.is c.new-opening.ensures)
+returns-in-0 c =
+    let e : c.unwrap_or_default.result ≡ numbers.opened c.new-opening.result = search rules in
+    rw (c.opened.ensures, e) (opened c.in-0.is c.new-opening.ensures)
 
 pub returns-in-1 : goal.returns-in-1
 returns-in-1 c = rw c.tell.ensures (cleared c.in-1.is c.clear.ensures)

@@ -1,11 +1,14 @@
 -- Each arm is the step of its operation, with what the map's call ensures. The last arm's operation is 5, since it is
 -- below 6 and none of the others.
-use Rattle.std.proofs.Common.{arith}
+use Rattle.std.proofs.Common.{◌≡◌, rules, arith}
+use Rattle.replay_linked_hash_map.specs.Numbers as numbers
 use Rattle.replay_linked_hash_map.specs.Steps.{opened, cleared, touched, written, put, removed}
 use Rattle.replay_linked_hash_map.proofs.layer.write.Goals as goal
 
 pub returns-in-0 : goal.returns-in-0
-returns-in-0 c = rw (c.tell.ensures, c.is_ok.ensures.value, c.opened.ensures) (opened c.in-0.is c.open-opening.ensures)
+returns-in-0 c =
+    let e : c.unwrap_or_default.result ≡ numbers.opened c.open-opening.result = search rules in
+    rw (c.tell.ensures, c.is_ok.ensures.value, e) (opened c.in-0.is c.open-opening.ensures)
 
 pub returns-in-1 : goal.returns-in-1
 returns-in-1 c = rw (c.tell-in-1.ensures, c.is_ok-in-1.ensures.value) (cleared c.in-1.is c.clear.ensures)
