@@ -57,10 +57,8 @@ fn empty_words(words: &mut [u64], n: usize)
     ensures { words.new ≡ emptied words.old n }
 {
     links::close_rings(words, n + 2, n, n + 1);
-    let mut i = 0;
-    while i < n {
+    for i in 0..n {
         links::attach(words, n + 2, n + 1, i);
-        i += 1;
     }
     index::clear_cells(words, n);
 }
@@ -112,14 +110,12 @@ fn refill(words: &mut [u64], n: usize, len: usize)
 {
     index::clear_cells(words, n);
     let mut x = words[5 * n + 4] as usize;
-    let mut left = len;
-    while 0 < left {
+    for _ in 0..len {
         if n <= x {
             return;
         }
         index::enter(words, n, x);
         x = words[5 * x + 4] as usize;
-        left -= 1;
     }
 }
 

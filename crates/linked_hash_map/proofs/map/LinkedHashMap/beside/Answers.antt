@@ -1,5 +1,4 @@
 use borrow.Author.Tests.{lt-ltb, le-ltb}
-use native.Mathlib.Omega.{arith}
 use Rattle.linked_hash_map.specs.Calls.{beside}
 use Rattle.linked_hash_map.proofs.Probed.{err_unfit}
 use Rattle.linked_hash_map.proofs.map.LinkedHashMap.beside.Goals as goal

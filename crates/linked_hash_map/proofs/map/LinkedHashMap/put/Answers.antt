@@ -1,4 +1,4 @@
-use mathlib.Core.Path.{sym, ◌∙◌}
+use mathlib.Core.Path.{sym}
 use Rattle.std.proofs.lemmas.Result.{err_from_is_err_and}
 use Rattle.linked_hash_map.proofs.Places.{put_over, put_full, put_refused}
 use Rattle.linked_hash_map.proofs.map.LinkedHashMap.put.Goals as goal

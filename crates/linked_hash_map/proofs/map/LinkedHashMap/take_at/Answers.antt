@@ -1,4 +1,3 @@
-use native.Mathlib.Omega.{arith}
 use Rattle.linked_hash_map.proofs.Places.{taking_unfit, taking_past, taking_beyond, taking_at}
 use Rattle.linked_hash_map.proofs.map.LinkedHashMap.take_at.Goals as goal
 use Rattle.linked_hash_map.proofs.map.LinkedHashMap.take_at.Goals.{else-slot-self-via-then-slot-self+else-cell-self, else-slot-self-via-else-slot-self}
