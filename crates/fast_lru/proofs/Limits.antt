@@ -7,9 +7,8 @@ use native.Mathlib.Omega.{arith}
 use lib.Dec.{eqb, ltb}
 use lib.ListN.{length}
 use borrow.Author.Tests.{lt-ltb, le-ltb, ltb-false, eq-eqb, ne_eqb, eqb-true, le-leb}
+use Rattle.std.specs.Prelude.{Result, Ok, Err, ⊤}
 use Rattle.time.specs.declared.refusal.Refusal.{Refusal}
-use Rattle.time.specs.declared.refusal.Outcome.{Outcome}
-use Rattle.time.specs.declared.refusal.Outcome.TheVariants.{Done, Refused}
 use Rattle.time.specs.declared.refusal.Refusal.TheVariants.{LimitOutOfRange, TooFewWords}
 use Rattle.limits.specs.Limits.{map_fits, list_limits}
 use Rattle.linked_hash_map.specs.Words as words
@@ -19,16 +18,16 @@ use Rattle.fast_lru.specs.Refusals.{words_for, out_of_range, admitted}
 use Rattle.fast_lru.specs.Lru.{IsList, Kept}
 
 -- what is done is not refused
-pub done : {o : Outcome} {why : Refusal} → o ≡ Done → o ≡ Refused why → ⊥
-done p q = let z : ◌≡◌ {A = ℕ} 0 1 = cc in omega arith
+pub done : {o : Result ⊤ Refusal} {why : Refusal} → o ≡ Ok tt → o ≡ Err why → ⊥
+done p q = cc
 
 -- ---- causes 1 and 2
-pub opening_room : (c size : ℕ) → c ≤ 4096 → words_for c ≤ size → list_limits c size ≡ Done
+pub opening_room : (c size : ℕ) → c ≤ 4096 → words_for c ≤ size → list_limits c size ≡ Ok tt
 unfolding list_limits
 opening_room c size h s = rw (le-ltb 4096 c h, le-ltb size (words_for c) s)
 
 module _ (l : FastLru) (size : ℕ) where
-  pub admitted_out : out_of_range l ≡ true → admitted l size ≡ Refused LimitOutOfRange
+  pub admitted_out : out_of_range l ≡ true → admitted l size ≡ Err LimitOutOfRange
   unfolding admitted
   admitted_out e = rw e
 
@@ -41,21 +40,21 @@ pub record Fits (c size : ℕ) : Type 0 where
   pub limit : c ≤ 4096
   pub words : words_for c ≤ size
 
-pub opening_fits : (c size : ℕ) → list_limits c size ≡ Done → Fits c size
+pub opening_fits : (c size : ℕ) → list_limits c size ≡ Ok tt → Fits c size
 unfolding list_limits
 opening_fits c size e = go (ltb 4096 c) refl (ltb size (words_for c)) refl e
   where
-    go : (a : Bool) → ltb 4096 c ≡ a → (b : Bool) → ltb size (words_for c) ≡ b → cond a (Refused LimitOutOfRange) (cond b (Refused TooFewWords) Done) ≡ Done → Fits c size
-    go true p b q t = absurd (done t refl)
-    go false p true q t = absurd (done t refl)
+    go : (a : Bool) → ltb 4096 c ≡ a → (b : Bool) → ltb size (words_for c) ≡ b → ◌≡◌ {A = Result ⊤ Refusal} (cond a (Err LimitOutOfRange) (cond b (Err TooFewWords) (Ok tt))) (Ok tt) → Fits c size
+    go true p b q t = cc
+    go false p true q t = cc
     go false p false q t = record { limit = ltb-false _ _ p; words = ltb-false _ _ q }
 
-pub admitted_fits : (l : FastLru) (size : ℕ) → admitted l size ≡ Done → Fits l.map.capacity size
+pub admitted_fits : (l : FastLru) (size : ℕ) → admitted l size ≡ Ok tt → Fits l.map.capacity size
 unfolding admitted
 admitted_fits l size e = go (out_of_range l) e
   where
-    go : (a : Bool) → cond a (Refused LimitOutOfRange) (list_limits l.map.capacity size) ≡ Done → Fits l.map.capacity size
-    go true t = absurd (done t refl)
+    go : (a : Bool) → cond a (Err LimitOutOfRange) (list_limits l.map.capacity size) ≡ Ok tt → Fits l.map.capacity size
+    go true t = cc
     go false t = opening_fits _ _ t
 
 -- what fits the list fits the map
@@ -101,7 +100,7 @@ module _ {ws : List ℕ} {l : FastLru} (is : IsList ws l) where
   list_in_range : out_of_range l ≡ false
   list_in_range = in_range l is.map.room.limit is.map.opened
 
-  pub list_admitted : admitted l (length ws) ≡ Done
+  pub list_admitted : admitted l (length ws) ≡ Ok tt
   list_admitted = admitted_in l (length ws) list_in_range ∙ opening_room l.map.capacity (length ws) is.map.room.limit is.words
 
 -- ---- what is kept
