@@ -24,7 +24,7 @@ use Rattle.fast_lru.specs.Lru.{items, model_of}
 use Rattle.fast_lru.specs.Steps.{nth, taking, Stepping, ValueAt, Picking}
 use Rattle.fast_lru.specs.Calls.{IsNew, Opening, Changing}
 use Rattle.fast_lru.proofs.Items.{lookup_items, without_items, front_items}
-use Rattle.fast_lru.proofs.Limits.{done, opening_fits, fits_map, list_admitted, kept_same, kept_map}
+use Rattle.fast_lru.proofs.Limits.{done, opening_fits, fits_map, kept_same, kept_map}
 use Rattle.fast_lru.proofs.Slots.{slot_in, key_value, has_slot}
 
 -- ---- `new`
@@ -47,29 +47,17 @@ opening_done ws c ws' m d o =
     }
 
 -- ---- the others
-module _ {A : Type 0} {ws : List ℕ} {l : FastLru} {answer_of : Items → A} {left_of : Items → Items} where
-  pub changing_refused : {why : Refusal} → admitted l (length ws) ≡ Err why → Changing ws l answer_of left_of ws l (Err why)
-  changing_refused p = record {
-    refused = λ w e. (cc, refl, refl);
-    only = λ w e. cc;
-    answer = λ is. absurd (done (list_admitted is) p);
-    capacity = refl;
-    list = λ is. is;
-    model = λ is. absurd (done (list_admitted is) p);
-    kept = kept_same l.map.capacity ws;
-  }
-
-  -- a map in the words of a list is a list
-  pub changing : {ws' : List ℕ} {l' : FastLru} {a : A} → admitted l (length ws) ≡ Ok tt → Stepping ws l answer_of left_of ws' l' a → Changing ws l answer_of left_of ws' l' (Ok a)
-  changing d s = record {
-    refused = λ w e. absurd (done d e);
-    only = λ w e. cc;
-    answer = λ is. ap Ok (s.answer is.map);
-    capacity = s.capacity;
-    list = λ is. record { map = s.map is.map; words = omega (arith, s.capacity, s.kept.size, is.words) };
-    model = λ is. s.model is.map;
-    kept = kept_map s.kept;
-  }
+-- an admitted call does what its step does, and a map in the words of a list is a list
+pub changing : {A : Type 0} {ws : List ℕ} {l : FastLru} {answer_of : Items → A} {left_of : Items → Items} {ws' : List ℕ} {l' : FastLru} {a : A} → admitted l (length ws) ≡ Ok tt → Stepping ws l answer_of left_of ws' l' a → Changing ws l answer_of left_of ws' l' (Ok a)
+changing d s = record {
+  refused = λ w e. absurd (done d e);
+  only = λ w e. cc;
+  answer = λ is. ap Ok (s.answer is.map);
+  capacity = s.capacity;
+  list = λ is. record { map = s.map is.map; words = omega (arith, s.capacity, s.kept.size, is.words) };
+  model = λ is. s.model is.map;
+  kept = kept_map s.kept;
+}
 
 -- a removal's model
 model_without : (ws ws' : List ℕ) (l r : FastLru) (k : ℕ) → map.model_of ws' r.map ≡ held.without k (map.model_of ws l.map) → model_of ws' r ≡ without k (model_of ws l)

@@ -3,7 +3,6 @@ pub mod Items
 pub mod Limits
 pub mod Slots
 pub mod Placing
-pub mod Reading
 pub mod Ranks
 pub mod Changing
 pub mod Laws

@@ -1,5 +1,7 @@
 // The recency list's calls. Each asks first whether it is refused, and then leaves the work to the map.
-ghost use Rattle.std.specs.Prelude.{◌≡◌, Some};
+#![tactic(auto, using(crate::proofs::Limits::list_admitted, crate::proofs::Slots::model_length))]
+
+ghost use Rattle.std.specs.Prelude.{◌≡◌};
 ghost use Rattle.fast_lru.specs.Refusals.{out_of_range, admitted};
 ghost use Rattle.fast_lru.specs.Calls.{Opening, Clearing, Length, Emptiness, Capacity, Containing, Getting, Peeking, Inserting, Removing, Popping, PeekingOldest, Touching, Ranking, Checking};
 ghost use Rattle.fast_lru.specs.Steps.{ValueAt, Picking, Choosing, PlacingFull, Placing, RankBetween, RankOf};
@@ -47,7 +49,6 @@ impl FastLru {
         limits::list(self.map.capacity, size)
     }
 
-    #[tactic(auto, using(crate::proofs::Limits::list_admitted, crate::proofs::Slots::model_length))]
     pub fn len(self, words: &[u64]) -> Result<usize, Refusal>
         ensures { Length words.now self result }
     {
@@ -55,7 +56,6 @@ impl FastLru {
         Ok(self.map.len)
     }
 
-    #[tactic(auto, using(crate::proofs::Limits::list_admitted, crate::proofs::Slots::model_length))]
     pub fn is_empty(self, words: &[u64]) -> Result<bool, Refusal>
         ensures { Emptiness words.now self result }
     {
@@ -89,7 +89,6 @@ impl FastLru {
     }
 
     // Moves the item to the front.
-    #[tactic(auto, using(crate::proofs::Limits::list_admitted))]
     pub fn get(&mut self, words: &mut [u64], key: u64) -> Result<Option<u64>, Refusal>
         ensures { Getting words.old self.old key words.new self.new result }
     {
@@ -99,7 +98,6 @@ impl FastLru {
     }
 
     // Moves nothing.
-    #[tactic(auto, using(crate::proofs::Limits::list_admitted, crate::proofs::Reading::peeking))]
     pub fn peek(self, words: &[u64], key: u64) -> Result<Option<u64>, Refusal>
         ensures { Peeking words.now self key result }
     {
@@ -109,7 +107,6 @@ impl FastLru {
     }
 
     // Puts the item at the front, and answers the key's old value. A new key in a full list pushes another item out.
-    #[tactic(auto, using(crate::proofs::Limits::list_admitted))]
     pub fn insert(
         &mut self,
         words: &mut [u64],
@@ -167,7 +164,6 @@ impl FastLru {
         self.oldest(words)
     }
 
-    #[tactic(auto, using(crate::proofs::Limits::list_admitted))]
     pub fn remove(&mut self, words: &mut [u64], key: u64) -> Result<Option<u64>, Refusal>
         ensures { Removing words.old self.old key words.new self.new result }
     {
@@ -184,7 +180,6 @@ impl FastLru {
     }
 
     // Takes the least recent item out.
-    #[tactic(auto, using(crate::proofs::Limits::list_admitted))]
     pub fn pop_lru(&mut self, words: &mut [u64]) -> Result<Option<(u64, u64)>, Refusal>
         ensures { Popping words.old self.old words.new self.new result }
     {
@@ -197,7 +192,6 @@ impl FastLru {
     }
 
     // The least recent item, which stays.
-    #[tactic(auto, using(crate::proofs::Limits::list_admitted))]
     pub fn peek_lru(self, words: &[u64]) -> Result<Option<(u64, u64)>, Refusal>
         ensures { PeekingOldest words.now self result }
     {
@@ -214,7 +208,6 @@ impl FastLru {
         Some((record.key, record.first))
     }
 
-    #[tactic(auto, using(crate::proofs::Limits::list_admitted))]
     pub fn clear(&mut self, words: &mut [u64]) -> Result<(), Refusal>
         ensures { Clearing words.old self.old words.new self.new result }
     {
@@ -224,7 +217,6 @@ impl FastLru {
     }
 
     // Moves the item to the front, and says whether there is one.
-    #[tactic(auto, using(crate::proofs::Limits::list_admitted))]
     pub fn touch(&mut self, words: &mut [u64], key: u64) -> Result<bool, Refusal>
         ensures { Touching words.old self.old key words.new self.new result }
     {
@@ -234,7 +226,6 @@ impl FastLru {
     }
 
     // How many items are more recent than the key's.
-    #[tactic(auto, using(crate::proofs::Limits::list_admitted))]
     pub fn recency_rank(self, words: &[u64], key: u64) -> Result<Option<usize>, Refusal>
         ensures { Ranking words.now self key result }
     {
@@ -279,7 +270,7 @@ impl FastLru {
     }
 
     // Whether words and numbers form a list.
-    #[tactic(auto, using(crate::proofs::Reading::checking, crate::proofs::Limits::list_admitted))]
+    #[tactic(auto, using(crate::proofs::Limits::list_admitted, crate::proofs::Limits::admitted_fits))]
     pub fn check(self, words: &[u64]) -> bool
         ensures { Checking words.now self result }
     {
