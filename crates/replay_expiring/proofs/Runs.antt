@@ -27,7 +27,8 @@ use Rattle.expiring.proofs.Runs.{ReadsAs}
 use Rattle.replay.specs.declared.answer.Answer as replay
 use Rattle.replay.specs.Answers.{words}
 use Rattle.replay.specs.Runs.{with_answer}
-use Rattle.replay_expiring.specs.Words.{Asked, changing, asked_at, call_of, call_in, of_answer}
+use Rattle.replay_expiring.specs.declared.call.Asked.{Asked}
+use Rattle.replay_expiring.specs.Words.{changing, asked_at, call_of, call_in, of_answer}
 use Rattle.expiring.specs.Numbers.{book_in}
 use Rattle.replay_expiring.specs.Runs.{of_reply, Turn, changed, looked, Run, none, more, Replayed, Fits, default_by, outcome_by, Opens, calls_in, told_in, discarded_in, words_of, AsThePlainBook}
 use Rattle.replay_expiring.proofs.Laws.{changed_stored, changed_past}

@@ -12,7 +12,8 @@ use Rattle.expiring.specs.Changes.{reply_in, Changing}
 use Rattle.expiring.proofs.Storing.{stay_changed}
 use Rattle.replay.specs.Runs.{with_answer}
 use Rattle.expiring.specs.Numbers.{book_in, with_changed}
-use Rattle.replay_expiring.specs.Words.{Asked, call_of, of_answer}
+use Rattle.replay_expiring.specs.declared.call.Asked.{Asked}
+use Rattle.replay_expiring.specs.Words.{call_of, of_answer}
 use Rattle.replay_expiring.specs.Words as words
 use Rattle.replay_expiring.specs.Runs as runs
 use Rattle.replay_expiring.specs.Runs.{of_reply, Turn}

@@ -13,7 +13,8 @@ use Rattle.replay.specs.declared.answer.Answer as replay
 use Rattle.replay.specs.Answers.{words}
 use Rattle.replay.specs.Runs.{with_answer}
 use Rattle.expiring.specs.Numbers.{book_in, with_changed}
-use Rattle.replay_expiring.specs.Words.{Asked, operations, changing, asked_at, call_in, default_of, of_answer, of_outcome}
+use Rattle.replay_expiring.specs.declared.call.Asked.{Asked}
+use Rattle.replay_expiring.specs.Words.{operations, changing, asked_at, call_in, default_of, of_answer, of_outcome}
 
 -- ---- a list of calls
 -- how many calls there are with room for an answer

@@ -11,17 +11,11 @@ use Rattle.expiring_model.specs.declared.answers.Answer.TheVariants as answer
 use Rattle.expiring_model.specs.declared.lifetimes.DefaultDuration.{DefaultDuration}
 use Rattle.expiring_model.specs.declared.lifetimes.DefaultDuration.TheVariants as asked
 use Rattle.expiring_model.specs.Model.{Call, insert, insert_with_ttl, get, remove, clear, set_ttl, purge_expired, next_deadline, touch, pop_lru, contains, peek, ttl_status, recency_rank, live_len, expirations, peek_lru}
+use Rattle.replay_expiring.specs.declared.call.Asked.{Asked}
 use Rattle.replay.specs.declared.answer.Answer as replay
 use Rattle.replay.specs.Answers.{words, nothing, number, pair, done, refused}
 
--- ---- a call: operation, tick, key, value, seconds, nanoseconds. It may be that there is no such operation.
-pub record Asked : Type 0 where
-  pub operation : ℕ
-  pub tick : Tick
-  pub key : ℕ
-  pub value : ℕ
-  pub ttl : Duration
-
+-- ---- a call. It may be that there is no such operation.
 -- the i-th call, counted from 0
 abbrev pub asked_at : List ℕ → ℕ → Asked
 asked_at cs i = record {
@@ -31,12 +25,6 @@ asked_at cs i = record {
   value = get_or cs (6 * i + 3) 0;
   ttl = duration_of (get_or cs (6 * i + 4) 0) (get_or cs (6 * i + 5) 0);
 }
-
--- the book's numbers, the i-th call's words and room for its answer
-pub record Room (ns cs out : List ℕ) (i : ℕ) : Type 0 where
-  pub numbers : 12 ≤ length ns
-  pub call : 6 * i + 6 ≤ length cs
-  pub answer : 4 * i + 4 ≤ length out
 
 -- how many operations there are
 abbrev pub operations : ℕ
