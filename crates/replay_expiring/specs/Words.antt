@@ -1,6 +1,5 @@
 -- Calls, openings and answers in words.
-use Rattle.std.specs.Prelude.{cond, List, ℕ, ◌+◌, ◌*◌, ◌≤◌, eqb, length, get_or}
-use Rattle.time.specs.declared.tick.Tick.{Tick}
+use Rattle.std.specs.Prelude.{cond, List, ℕ, ◌+◌, ◌*◌, eqb, get_or}
 use Rattle.time.specs.declared.duration.Duration.{Duration}
 use Rattle.time.specs.Duration.{duration_of}
 use Rattle.time.specs.declared.refusal.Outcome.{Outcome}

@@ -1,23 +1,9 @@
 -- Each arm is the call of its operation. The last arm's operation is 16, since it is below 17 and none of the others.
-use mathlib.Core.Path.{◌≡◌, refl}
-use mathlib.Core.Logic.{◌≢◌}
-use Prim.Native.Nat.{ℕ, zero, suc, ◌<◌, ◌≤◌}
+use mathlib.Core.Path.{refl}
 use native.Mathlib.Omega.{arith}
 use Rattle.replay_expiring.specs.Words.{call_of}
 use Rattle.replay_expiring.proofs.Turns.{changed, changing, looked}
 use Rattle.replay_expiring.proofs.turn.turn.Goals as goal
-
--- what the last arm is told: n is none of the first k numbers
-abbrev NoneBelow : ℕ → ℕ → Type 0
-NoneBelow zero n = Unit {0}
-NoneBelow (suc k) n = NoneBelow k n × (n ≢ k)
-
-beyond : (k n : ℕ) → NoneBelow k n → k ≤ n
-beyond zero n h = omega arith
-beyond (suc k) n h = omega (arith, beyond k n h.0, h.1)
-
-sixteen : {n : ℕ} → n < 17 → 16 ≤ n → n ≡ 16
-sixteen h l = omega arith
 
 pub returns-in-0 : goal.returns-in-0
 unfolding call_of
@@ -85,4 +71,4 @@ returns-in-15 c = looked c.in-15.is refl c.book_in-in-15.ensures (omega arith) c
 
 pub returns-in_default : goal.returns-in_default
 unfolding call_of
-returns-in_default c = looked (sixteen c.requires.2 (beyond 16 _ c.in_default.in_default-own.rest)) refl c.book_in-in_default.ensures (omega arith) c.peek_lru-reply.ensures c.store_answer-in_default.ensures
+returns-in_default c = looked {o = 16} (omega (arith, c.requires.2, c.in_default)) refl c.book_in-in_default.ensures (omega arith) c.peek_lru-reply.ensures c.store_answer-in_default.ensures
