@@ -3,7 +3,7 @@ ghost use Rattle.std.specs.Prelude.{◌≡◌, ◌+◌, ◌*◌, length};
 ghost use Rattle.binary_heap.specs.Order.{le, is_at_most};
 ghost use Rattle.binary_heap.specs.Entries.{entry_at, put_at, swap_at, Holds};
 
-#[derive(Clone, Copy)]
+#[derive(Clone, Copy, Default)]
 pub struct Entry {
     pub score: u64,
     pub seq: u64,

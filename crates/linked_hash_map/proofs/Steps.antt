@@ -1,14 +1,31 @@
 -- The definitions by recursion as the loops run through them: a turn takes one from what is left.
 use mathlib.Core.Path.{◌≡◌, refl, ap, ◌∙◌}
-use mathlib.Core.Bool.{true, false}
+use mathlib.Core.Bool.{Bool, true, false, cond}
 use mathlib.Core.List.{List}
 use Prim.Native.Nat.{ℕ, suc, ◌+◌, ◌-◌, ◌<◌, ◌≤◌}
 use native.Mathlib.Omega.{arith}
 use borrow.Author.Tests.{lt-ltb, le-ltb}
+use Rattle.std.specs.Prelude.{Some, None}
+use Rattle.std.specs.Bool.{then_some}
 use Rattle.rings.specs.Ring.{next, attached}
 use Rattle.cells.specs.Probe.{entered}
+use Rattle.linked_hash_map.specs.declared.map.LinkedHashMap.{LinkedHashMap}
 use Rattle.linked_hash_map.specs.Words.{filled, entered_from}
+use Rattle.linked_hash_map.specs.Numbers.{len_after}
 use Rattle.linked_hash_map.specs.Checks.{finds_of, finds_all}
+
+pub then_some_cond : (b : Bool) (x : ℕ) → then_some b x ≡ cond b (Some x) None
+then_some_cond true x = refl
+then_some_cond false x = refl
+
+-- a record more, up to the capacity
+pub counted : (m : LinkedHashMap) {k : ℕ} → m.len < m.capacity → k ≡ m.len + 1 → k ≡ len_after m
+unfolding len_after
+counted m h e = e ∙ rw (lt-ltb _ _ h) refl
+
+pub all_counted : (m : LinkedHashMap) {k : ℕ} → m.capacity ≤ m.len → k ≡ m.capacity → k ≡ len_after m
+unfolding len_after
+all_counted m h e = e ∙ rw (le-ltb _ _ h) refl
 
 module _ (ws : List ℕ) (n : ℕ) where
   pub filled_on : (i : ℕ) → i < n → filled ws n i (n - i) ≡ filled (attached (n + 2) ws (n + 1) i) n (i + 1) (n - (i + 1))

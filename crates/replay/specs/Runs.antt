@@ -2,6 +2,7 @@
 use Rattle.std.specs.Prelude.{◌≡◌, List, ℕ, ◌+◌, ◌*◌, ◌/◌, ◌<◌, ◌≤◌, min, length, get_or, set}
 use Rattle.replay.specs.declared.answer.Answer.{Answer}
 use Rattle.replay.specs.declared.call.Call.{Call}
+use Rattle.replay.specs.Answers.{number_of}
 
 -- the i-th call, counted from 0
 abbrev pub call_at : List ℕ → ℕ → Call
@@ -9,7 +10,7 @@ call_at cs i = record { operation = get_or cs (4 * i) 0; first = get_or cs (4 * 
 
 -- the words with the i-th answer written
 unfoldable pub with_answer : List ℕ → ℕ → Answer → List ℕ
-with_answer out i a = set (set (set (set out (4 * i) a.code) (4 * i + 1) a.first) (4 * i + 2) a.second) (4 * i + 3) a.third
+with_answer out i a = set (set (set (set out (4 * i) (number_of a.code)) (4 * i + 1) a.first) (4 * i + 2) a.second) (4 * i + 3) a.third
 
 -- how many calls there are with room for an answer
 abbrev pub room_in : List ℕ → List ℕ → ℕ

@@ -2,153 +2,113 @@
 ghost use Rattle.std.specs.Prelude.{◌≡◌};
 ghost use Rattle.replay.specs.Answers as answers;
 
+// What an answer says. Its number is the answer's first word.
+#[derive(Clone, Copy)]
+pub enum Code {
+    No = 0,
+    Yes = 1,
+    Nothing = 2,
+    Number = 3,
+    Pair = 4,
+    Record = 5,
+    Inserted = 6,
+    Replaced = 7,
+    Full = 8,
+    Done = 9,
+    Refused = 10,
+    Unknown = 11,
+    // A lifetime's status.
+    Missing = 12,
+    Immortal = 13,
+    Expired = 14,
+    Live = 15,
+}
+
+impl Code {
+    pub fn number(self) -> u64
+        ensures { result ≡ answers.number_of self }
+    {
+        self as u64
+    }
+}
+
 #[derive(Clone, Copy)]
 pub struct Answer {
-    pub code: u64,
+    pub code: Code,
     pub first: u64,
     pub second: u64,
     pub third: u64,
 }
 
 impl Answer {
-    pub fn no() -> Answer
-        ensures { result ≡ answers.no }
+    pub fn words(code: Code, first: u64, second: u64, third: u64) -> Answer
+        ensures { result ≡ answers.words code first second third }
     {
         Answer {
-            code: 0,
-            first: 0,
-            second: 0,
-            third: 0,
+            code,
+            first,
+            second,
+            third,
         }
-    }
-
-    pub fn yes() -> Answer
-        ensures { result ≡ answers.yes }
-    {
-        Answer {
-            code: 1,
-            first: 0,
-            second: 0,
-            third: 0,
-        }
-    }
-
-    pub fn of_bool(yes: bool) -> Answer
-        ensures { result ≡ answers.of_bool yes }
-    {
-        if yes {
-            return Answer::yes();
-        }
-        Answer::no()
     }
 
     pub fn nothing(discarded: u64) -> Answer
         ensures { result ≡ answers.nothing discarded }
     {
-        Answer {
-            code: 2,
-            first: 0,
-            second: 0,
-            third: discarded,
-        }
+        Answer::words(Code::Nothing, 0, 0, discarded)
     }
 
     pub fn number(number: u64, discarded: u64) -> Answer
         ensures { result ≡ answers.number number discarded }
     {
-        Answer {
-            code: 3,
-            first: number,
-            second: 0,
-            third: discarded,
-        }
+        Answer::words(Code::Number, number, 0, discarded)
     }
 
     pub fn pair(first: u64, second: u64, discarded: u64) -> Answer
         ensures { result ≡ answers.pair first second discarded }
     {
-        Answer {
-            code: 4,
-            first,
-            second,
-            third: discarded,
-        }
+        Answer::words(Code::Pair, first, second, discarded)
     }
 
     pub fn record(key: u64, first: u64, second: u64) -> Answer
         ensures { result ≡ answers.recorded key first second }
     {
-        Answer {
-            code: 5,
-            first: key,
-            second: first,
-            third: second,
-        }
+        Answer::words(Code::Record, key, first, second)
     }
 
     pub fn inserted() -> Answer
         ensures { result ≡ answers.inserted }
     {
-        Answer {
-            code: 6,
-            first: 0,
-            second: 0,
-            third: 0,
-        }
+        Answer::words(Code::Inserted, 0, 0, 0)
     }
 
     pub fn replaced(key: u64, first: u64, second: u64) -> Answer
         ensures { result ≡ answers.replaced key first second }
     {
-        Answer {
-            code: 7,
-            first: key,
-            second: first,
-            third: second,
-        }
+        Answer::words(Code::Replaced, key, first, second)
     }
 
     pub fn full() -> Answer
         ensures { result ≡ answers.full }
     {
-        Answer {
-            code: 8,
-            first: 0,
-            second: 0,
-            third: 0,
-        }
+        Answer::words(Code::Full, 0, 0, 0)
     }
 
     pub fn done(discarded: u64) -> Answer
         ensures { result ≡ answers.done discarded }
     {
-        Answer {
-            code: 9,
-            first: 0,
-            second: 0,
-            third: discarded,
-        }
+        Answer::words(Code::Done, 0, 0, discarded)
     }
 
     pub fn refused(number: u64, discarded: u64) -> Answer
         ensures { result ≡ answers.refused number discarded }
     {
-        Answer {
-            code: 10,
-            first: number,
-            second: 0,
-            third: discarded,
-        }
+        Answer::words(Code::Refused, number, 0, discarded)
     }
 
     pub fn unknown() -> Answer
         ensures { result ≡ answers.unknown }
     {
-        Answer {
-            code: 11,
-            first: 0,
-            second: 0,
-            third: 0,
-        }
+        Answer::words(Code::Unknown, 0, 0, 0)
     }
 }

@@ -16,9 +16,7 @@ pub struct Call {
 pub fn room(calls: &[u64], answers: &[u64]) -> usize
     ensures { result ≡ room_in calls.now answers.now }
 {
-    let given = calls.len() / 4;
-    let fitting = answers.len() / 4;
-    if given < fitting { given } else { fitting }
+    (calls.len() / 4).min(answers.len() / 4)
 }
 
 // The i-th call, counted from 0.
@@ -35,11 +33,12 @@ pub fn call_at(calls: &[u64], i: usize) -> Call
 }
 
 // Writes the i-th answer.
+#[tactic(auto, unfolding(crate::specs::Runs::with_answer))]
 pub fn store_answer(answers: &mut [u64], i: usize, answer: Answer)
     requires { 4 * i + 4 ≤ length answers.old }
     ensures { answers.new ≡ with_answer answers.old i answer }
 {
-    answers[4 * i] = answer.code;
+    answers[4 * i] = answer.code.number();
     answers[4 * i + 1] = answer.first;
     answers[4 * i + 2] = answer.second;
     answers[4 * i + 3] = answer.third;

@@ -20,6 +20,10 @@
 
 mod answer;
 mod call;
+mod layer;
+mod tell;
 
-pub use answer::Answer;
+pub use answer::{Answer, Code};
 pub use call::{Call, call_at, room, store_answer};
+pub use layer::{Layer, replay};
+pub use tell::{Tell, opened};

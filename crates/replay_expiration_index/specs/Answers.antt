@@ -1,38 +1,29 @@
 -- The answers of the index's calls, in words. The last word is how many entries the call discarded.
-use Rattle.std.specs.Prelude.{ℕ}
-use Rattle.time.specs.declared.refusal.Outcome.{Outcome}
-use Rattle.time.specs.declared.refusal.Outcome.TheVariants as outcome
-use Rattle.time.specs.Refusal.{number_of}
-use Rattle.expiration_index.specs.declared.answers.Deadline.{Deadline}
-use Rattle.expiration_index.specs.declared.answers.Deadline.TheVariants as deadline
-use Rattle.expiration_index.specs.declared.answers.Due.{Due}
-use Rattle.expiration_index.specs.declared.answers.Due.TheVariants as due
-use Rattle.expiration_index.specs.declared.answers.Count.{Count}
-use Rattle.expiration_index.specs.declared.answers.Count.TheVariants as count
-use Rattle.expiration_index.specs.declared.answers.Told.{Told}
-use Rattle.expiration_index.specs.declared.answers.Told.TheVariants as told
+use Rattle.std.specs.Prelude.{Bool, ℕ, Option, Result}
+use Rattle.time.specs.declared.refusal.Refusal.{Refusal}
+use Rattle.time.specs.declared.tick.Tick.{Tick}
+use Rattle.lazy_heap_model.specs.declared.counted.Counted.{Counted}
 use Rattle.replay.specs.declared.answer.Answer.{Answer}
-use Rattle.replay.specs.Answers.{no, yes, nothing, number, pair, done, refused}
+use Rattle.replay.specs.Answers.{of_bool, number}
+use Rattle.replay.specs.Told.{of_done, of_tick, of_due, of_option, of_call}
+use Rattle.replay_lazy_heap.specs.Answers.{of_counted}
 
-abbrev pub of_outcome : Outcome → ℕ → Answer
-of_outcome outcome.Done d = done d
-of_outcome (outcome.Refused why) d = refused (number_of why) d
+-- the calls that may discard entries
+abbrev pub of_changed : Result (Counted (Option Tick)) Refusal → Answer
+of_changed r = of_counted (of_option of_tick) r
 
-abbrev pub of_deadline : Deadline → ℕ → Answer
-of_deadline (deadline.At t) d = number t.0 d
-of_deadline deadline.Nothing d = nothing d
-of_deadline (deadline.Refused why) d = refused (number_of why) d
+abbrev pub of_looked : Result (Counted (Option (ℕ × Tick))) Refusal → Answer
+of_looked r = of_counted (of_option of_due) r
 
-abbrev pub of_due : Due → ℕ → Answer
-of_due (due.Pair k t) d = pair k t.0 d
-of_due due.Nothing d = nothing d
-of_due (due.Refused why) d = refused (number_of why) d
+-- the calls that discard nothing
+abbrev pub of_outcome : {A : Type 0} → Result A Refusal → Answer
+of_outcome r = of_call of_done r
 
-abbrev pub of_count : Count → Answer
-of_count (count.Number n) = number n 0
-of_count (count.Refused why) = refused (number_of why) 0
+abbrev pub of_deadline : Result (Option Tick) Refusal → Answer
+of_deadline r = of_call (of_option of_tick) r
 
-abbrev pub of_told : Told → Answer
-of_told told.Yes = yes
-of_told told.No = no
-of_told (told.Refused why) = refused (number_of why) 0
+abbrev pub of_count : Result ℕ Refusal → Answer
+of_count r = of_call number r
+
+abbrev pub of_told : Result Bool Refusal → Answer
+of_told r = of_call of_bool r

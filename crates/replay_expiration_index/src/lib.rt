@@ -13,8 +13,6 @@
 // The numbers are those of the heap: capacity, len and refill_in of its map of scores, and then entries, seq, factor.
 #![tactic(auto)]
 
-mod answer;
-mod call;
-mod list;
+mod layer;
 
-pub use list::expiration_index_replay;
+pub use layer::expiration_index_replay;

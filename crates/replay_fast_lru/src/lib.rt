@@ -14,9 +14,7 @@
 // The numbers are those of the list's map: capacity, len, refill_in.
 #![tactic(auto)]
 
-mod answer;
-mod call;
-mod list;
+mod layer;
 mod runs;
 
-pub use list::fast_lru_replay;
+pub use layer::fast_lru_replay;

@@ -4,118 +4,60 @@ ghost use Rattle.std.specs.Prelude.{◌≡◌, ◌*◌, ◌<◌, ◌≤◌, leng
 ghost use Rattle.replay.specs.Runs.{call_at};
 ghost use Rattle.replay_fast_lru.specs.Steps.{Onward};
 
-use crate::answer;
+use crate::layer::step;
 use fast_lru::FastLru;
+use replay::{call_at, store_answer};
 
-// The list's numbers after the calls before the i-th.
-#[derive(Clone, Copy)]
-pub struct Reached {
-    pub lru: FastLru,
-    pub i: usize,
-}
-
-// Runs the calls from one on while they are inserts.
-pub fn inserts(
+// Runs a call, and where it is of an operation that has a loop of its own, those after it that are too. Says which call is
+// the next.
+pub fn run_on(
     words: &mut [u64],
-    lru: FastLru,
-    calls: &[u64],
-    answers: &mut [u64],
-    from: usize,
-    count: usize,
-) -> Reached
-    requires { (4 * count ≤ length calls.now) × (4 * count ≤ length answers.old) × (from < count) }
-    ensures { Onward calls.now from count words.old lru answers.old result.i words.new result.lru answers.new × ((call_at calls.now from).operation ≡ 2 → from < result.i) }
-{
-    let mut lru = lru;
-    let mut i = from;
-    while i < count {
-        let call = replay::call_at(calls, i);
-        if call.operation != 2 {
-            return Reached { lru, i };
-        }
-        let reply = lru.insert(words, call.first, call.second);
-        let found = reply.answer;
-        replay::store_answer(answers, i, answer::of_found(found));
-        lru = reply.lru;
-        i += 1;
-    }
-    Reached { lru, i }
-}
-
-pub fn gets(
-    words: &mut [u64],
-    lru: FastLru,
-    calls: &[u64],
-    answers: &mut [u64],
-    from: usize,
-    count: usize,
-) -> Reached
-    requires { (4 * count ≤ length calls.now) × (4 * count ≤ length answers.old) × (from < count) }
-    ensures { Onward calls.now from count words.old lru answers.old result.i words.new result.lru answers.new × ((call_at calls.now from).operation ≡ 3 → from < result.i) }
-{
-    let mut lru = lru;
-    let mut i = from;
-    while i < count {
-        let call = replay::call_at(calls, i);
-        if call.operation != 3 {
-            return Reached { lru, i };
-        }
-        let reply = lru.get(words, call.first);
-        let found = reply.answer;
-        replay::store_answer(answers, i, answer::of_found(found));
-        lru = reply.lru;
-        i += 1;
-    }
-    Reached { lru, i }
-}
-
-pub fn touches(
-    words: &mut [u64],
-    lru: FastLru,
-    calls: &[u64],
-    answers: &mut [u64],
-    from: usize,
-    count: usize,
-) -> Reached
-    requires { (4 * count ≤ length calls.now) × (4 * count ≤ length answers.old) × (from < count) }
-    ensures { Onward calls.now from count words.old lru answers.old result.i words.new result.lru answers.new × ((call_at calls.now from).operation ≡ 6 → from < result.i) }
-{
-    let mut lru = lru;
-    let mut i = from;
-    while i < count {
-        let call = replay::call_at(calls, i);
-        if call.operation != 6 {
-            return Reached { lru, i };
-        }
-        let reply = lru.touch(words, call.first);
-        let told = reply.answer;
-        replay::store_answer(answers, i, answer::of_told(told));
-        lru = reply.lru;
-        i += 1;
-    }
-    Reached { lru, i }
-}
-
-pub fn peeks(
-    words: &[u64],
-    lru: FastLru,
+    lru: &mut FastLru,
     calls: &[u64],
     answers: &mut [u64],
     from: usize,
     count: usize,
 ) -> usize
     requires { (4 * count ≤ length calls.now) × (4 * count ≤ length answers.old) × (from < count) }
-    ensures { Onward calls.now from count words.now lru answers.old result words.now lru answers.new × ((call_at calls.now from).operation ≡ 7 → from < result) }
+    ensures { Onward calls.now from count words.old lru.old answers.old result words.new lru.new answers.new × (from < result) }
 {
-    let mut i = from;
-    while i < count {
-        let call = replay::call_at(calls, i);
-        if call.operation != 7 {
-            return i;
+    let call = call_at(calls, from);
+    match call.operation {
+        2 => alike::<2>(words, lru, calls, answers, from, count),
+        3 => alike::<3>(words, lru, calls, answers, from, count),
+        6 => alike::<6>(words, lru, calls, answers, from, count),
+        7 => alike::<7>(words, lru, calls, answers, from, count),
+        _ => {
+            let answer = step(words, lru, call);
+            store_answer(answers, from, answer);
+            from + 1
         }
-        let found = lru.peek(words, call.first);
-        replay::store_answer(answers, i, answer::of_found(found));
-        i += 1;
     }
-    i
+}
+
+// Runs the calls from one on while they are of the operation. The numbers are the loop's own, so that they need not be in memory.
+fn alike<const OPERATION: u64>(
+    words: &mut [u64],
+    lru: &mut FastLru,
+    calls: &[u64],
+    answers: &mut [u64],
+    from: usize,
+    count: usize,
+) -> usize
+    requires { (4 * count ≤ length calls.now) × (4 * count ≤ length answers.old) × (from < count) }
+    ensures { Onward calls.now from count words.old lru.old answers.old result words.new lru.new answers.new × ((call_at calls.now from).operation ≡ OPERATION → from < result) }
+{
+    let mut list = *lru;
+    let mut next = count;
+    for i in from..count {
+        let call = call_at(calls, i);
+        if call.operation != OPERATION {
+            next = i;
+            break;
+        }
+        let answer = step(words, &mut list, call);
+        store_answer(answers, i, answer);
+    }
+    *lru = list;
+    next
 }

@@ -1,56 +1,26 @@
-// The answers of the heap's calls, in words.
+// The answers of calls that may discard entries, in words.
 ghost use Rattle.std.specs.Prelude.{◌≡◌};
-ghost use Rattle.replay_lazy_heap.specs.Answers.{of_outcome, of_score, of_best, of_number, of_flag};
+ghost use Rattle.replay_lazy_heap.specs.Answers.{of_counted, of_discarded};
 
-use lazy_heap::{Flag, Number};
-use lazy_heap_model::{Best, Score};
-use replay::Answer;
-use time::Outcome;
+use lazy_heap_model::Counted;
+use replay::{Answer, Tell};
+use time::Refusal;
 
-pub fn of_outcome(outcome: Outcome, discarded: u64) -> Answer
-    ensures { result ≡ of_outcome outcome discarded }
+pub fn of_counted<T: Tell>(counted: Result<Counted<T>, Refusal>) -> Answer
+    ensures { result ≡ of_counted T.told counted }
 {
-    match outcome {
-        Outcome::Done => Answer::done(discarded),
-        Outcome::Refused(why) => Answer::refused(why.number(), discarded),
+    match counted {
+        Ok(told) => told.answer.tell(told.discarded as u64),
+        Err(why) => why.tell(0),
     }
 }
 
-pub fn of_score(score: Score, discarded: u64) -> Answer
-    ensures { result ≡ of_score score discarded }
+// The answer of a call that says only how many entries it discarded.
+pub fn of_discarded(discarded: Result<usize, Refusal>) -> Answer
+    ensures { result ≡ of_discarded discarded }
 {
-    match score {
-        Score::Value(v) => Answer::number(v, discarded),
-        Score::Nothing => Answer::nothing(discarded),
-        Score::Refused(why) => Answer::refused(why.number(), discarded),
-    }
-}
-
-pub fn of_best(best: Best, discarded: u64) -> Answer
-    ensures { result ≡ of_best best discarded }
-{
-    match best {
-        Best::Pair(key, score) => Answer::pair(key, score, discarded),
-        Best::Nothing => Answer::nothing(discarded),
-        Best::Refused(why) => Answer::refused(why.number(), discarded),
-    }
-}
-
-pub fn of_number(number: Number) -> Answer
-    ensures { result ≡ of_number number }
-{
-    match number {
-        Number::Value(n) => Answer::number(n as u64, 0),
-        Number::Refused(why) => Answer::refused(why.number(), 0),
-    }
-}
-
-pub fn of_flag(flag: Flag) -> Answer
-    ensures { result ≡ of_flag flag }
-{
-    match flag {
-        Flag::Yes => Answer::yes(),
-        Flag::No => Answer::no(),
-        Flag::Refused(why) => Answer::refused(why.number(), 0),
+    match discarded {
+        Ok(count) => Answer::done(count as u64),
+        Err(why) => why.tell(0),
     }
 }

@@ -16,9 +16,9 @@
 #![tactic(auto)]
 
 mod answer;
-mod call;
-mod list;
+mod layer;
 mod numbers;
 
-pub use list::lazy_heap_replay;
+pub use answer::{of_counted, of_discarded};
+pub use layer::lazy_heap_replay;
 pub use numbers::{heap_in, store_heap};

@@ -1,17 +1,16 @@
-// The answers of the map's calls, in words.
+// The answers of the map's calls, in words. None discards anything, and none has a refusal's number.
 ghost use Rattle.std.specs.Prelude.{◌≡◌};
 ghost use Rattle.replay_linked_hash_map.specs.Answers.{of_slot, of_record, of_placed, of_taken};
 
-use linked_hash_map::{Placed, Record, Slot, Taken};
-use replay::Answer;
+use linked_hash_map::{PutError, Record, Unfit};
+use replay::{Answer, Tell};
 
-pub fn of_slot(slot: Slot) -> Answer
+pub fn of_slot(slot: Result<Option<usize>, Unfit>) -> Answer
     ensures { result ≡ of_slot slot }
 {
     match slot {
-        Slot::At(s) => Answer::number(s as u64, 0),
-        Slot::Nothing => Answer::nothing(0),
-        Slot::Refused => Answer::refused(0, 0),
+        Ok(found) => found.tell(0),
+        Err(Unfit) => Answer::refused(0, 0),
     }
 }
 
@@ -21,23 +20,23 @@ pub fn of_record(item: Record) -> Answer
     Answer::record(item.key, item.first, item.second)
 }
 
-pub fn of_placed(placed: Placed) -> Answer
+pub fn of_placed(placed: Result<Option<Record>, PutError>) -> Answer
     ensures { result ≡ of_placed placed }
 {
     match placed {
-        Placed::Inserted => Answer::inserted(),
-        Placed::Replaced(old) => Answer::replaced(old.key, old.first, old.second),
-        Placed::Full => Answer::full(),
-        Placed::Refused => Answer::refused(0, 0),
+        Ok(None) => Answer::inserted(),
+        Ok(Some(old)) => Answer::replaced(old.key, old.first, old.second),
+        Err(PutError::Full) => Answer::full(),
+        Err(PutError::Unfit) => Answer::refused(0, 0),
     }
 }
 
-pub fn of_taken(taken: Taken) -> Answer
+pub fn of_taken(taken: Result<Option<Record>, Unfit>) -> Answer
     ensures { result ≡ of_taken taken }
 {
     match taken {
-        Taken::Record(old) => of_record(old),
-        Taken::Nothing => Answer::nothing(0),
-        Taken::Refused => Answer::refused(0, 0),
+        Ok(Some(old)) => of_record(old),
+        Ok(None) => Answer::nothing(0),
+        Err(Unfit) => Answer::refused(0, 0),
     }
 }

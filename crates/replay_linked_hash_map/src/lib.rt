@@ -14,9 +14,8 @@
 #![tactic(auto)]
 
 mod answer;
-mod call;
-mod list;
+mod layer;
 mod numbers;
 
-pub use list::linked_hash_map_replay;
+pub use layer::linked_hash_map_replay;
 pub use numbers::{map_in, store_map};

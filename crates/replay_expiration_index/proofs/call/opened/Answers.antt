@@ -1,5 +1,0 @@
--- The answer is what `of_outcome` ensures.
-use Rattle.replay_expiration_index.proofs.call.opened.Goals as goal
-
-pub returns : goal.returns
-returns c = cc
