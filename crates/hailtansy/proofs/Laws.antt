@@ -5,7 +5,8 @@ use mathlib.Core.List.{List}
 use Prim.Native.Nat.{ℕ}
 use native.Mathlib.Omega.{arith}
 use Rattle.expiring.specs.declared.answers.Reply.{Reply}
-use Rattle.expiring.specs.declared.expiring.changes.Said.{Said}
+use Rattle.lazy_heap_model.specs.declared.counted.Counted.{Counted}
+use Rattle.expiring_model.specs.declared.answers.Answer.{Answer}
 use Rattle.expiring_model.specs.Model.{Call}
 use Rattle.expiring.specs.Calls.{Following}
 use Rattle.expiring.specs.Changes.{reply_in, Changing}
@@ -33,7 +34,7 @@ module _ {ns ws out : List ℕ} {t : ℕ} {c : Call} where
   })
 
 -- the same, on the numbers themselves
-pub changed : (ns ns' : List ℕ) {ws ws' out out' : List ℕ} {t : ℕ} {c : Call} {s : Said} → Room ns out → Changing ns ws (tick_of t) c ns' ws' s → out' ≡ with_answer out 0 (of_answer s.answer s.discarded) → Called ns ws t c out ns' ws' out' 1
+pub changed : (ns ns' : List ℕ) {ws ws' out out' : List ℕ} {t : ℕ} {c : Call} {s : Counted Answer} → Room ns out → Changing ns ws (tick_of t) c ns' ws' s → out' ≡ with_answer out 0 (of_answer s.answer s.discarded) → Called ns ws t c out ns' ws' out' 1
 changed ns ns' {s = s} h o q = rw q (record {
   few = λ none. absurd (none h);
   ran = λ _. refl;
