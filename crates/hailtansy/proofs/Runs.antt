@@ -5,7 +5,7 @@ use mathlib.Core.List.{List, [], ◌∷◌}
 use Prim.Native.Nat.{ℕ, ◌+◌, ◌^◌, ◌<◌, ◌≤◌}
 use native.Mathlib.Omega.{arith}
 use lib.ListN.{length, get_or}
-use Rattle.time.specs.declared.refusal.Outcome.TheVariants.{Done}
+use Rattle.std.specs.Prelude.{Ok}
 use Rattle.lazy_heap_model.specs.Model.{heap_len, opened}
 use Rattle.expiring_model.specs.declared.answers.Answer.{Answer}
 use Rattle.expiring.specs.declared.answers.Reply.{Reply}
@@ -72,7 +72,7 @@ came p is e h (look {out = out} {t = t} {c = c} room k rest) =
     then s (came (book_after (tick_of t) c p) s.book s.model (within (tick_of t) c p h) rest)
 
 -- ---- demand 3: calls one by one on what an opening left
-pub as_the_plain_book : {ns ws how said ns₁ ws₁ said₁ ns' ws' : List ℕ} {n : ℕ} {cs : Calls} {outs : List (List ℕ)} → Fits ns how said → Opens ns ws how said ns₁ ws₁ said₁ n → outcome_by how ws ≡ Done → Series ns₁ ws₁ cs outs ns' ws' → AsThePlainBook (fresh (get_or how 0 0) (get_or how 1 0) (default_of (default_by how))) cs outs ns' ws'
+pub as_the_plain_book : {ns ws how said ns₁ ws₁ said₁ ns' ws' : List ℕ} {n : ℕ} {cs : Calls} {outs : List (List ℕ)} → Fits ns how said → Opens ns ws how said ns₁ ws₁ said₁ n → outcome_by how ws ≡ Ok tt → Series ns₁ ws₁ cs outs ns' ws' → AsThePlainBook (fresh (get_or how 0 0) (get_or how 1 0) (default_of (default_by how))) cs outs ns' ws'
 unfolding fresh opened
 as_the_plain_book {how = how} fits opens done series =
     let o = opens.opened fits in

@@ -31,6 +31,11 @@ pub record Called (ns ws : List ℕ) (t : ℕ) (c : Call) (out ns' ws' out' : Li
   pub size : length ns' ≡ length ns
   pub past : (j : ℕ) → 12 ≤ j → get_or ns' j 0 ≡ get_or ns j 0
 
+-- a call that leaves the model and the heap as they are
+pub record IsLook (t : ℕ) (c : Call) : Type 0 where
+  pub model : (p : Book) → p.expirations < 2 ^ 64 → book_after (tick_of t) c p ≡ p
+  pub heap : (p : Book) (h : Heap) → heap_by (tick_of t) c p h ≡ h
+
 -- a call that changes neither words nor numbers, since the model and the heap stay as they are
 pub data Answered (t : ℕ) (c : Call) (ws : List ℕ) (b : Expiring) (out : List ℕ) : List ℕ → Type 0 where
   answered : {r : Reply} → Following ws b (tick_of t) c ws r → Answered t c ws b out (with_answer out 0 (of_reply r))

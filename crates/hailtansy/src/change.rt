@@ -17,15 +17,9 @@ pub extern "C" fn hailtansy_get(
 ) -> u64
     ensures { Called numbers.old words.old tick (get key) answer.old numbers.new words.new answer.new result }
 {
-    if numbers.len() < 12 {
-        return 0;
-    }
-    if answer.len() < 4 {
-        return 0;
-    }
-    let said = expiring::get(numbers, words, Tick(tick), key);
-    replay_expiring::store_said(answer, 0, said);
-    1
+    tell::change(numbers, words, answer, |numbers, words| {
+        expiring::get(numbers, words, Tick(tick), key)
+    })
 }
 
 // Stores a value, with the default lifetime if there is one; the answer is the value that it replaced.
@@ -40,15 +34,9 @@ pub extern "C" fn hailtansy_insert(
 ) -> u64
     ensures { Called numbers.old words.old tick (insert key value) answer.old numbers.new words.new answer.new result }
 {
-    if numbers.len() < 12 {
-        return 0;
-    }
-    if answer.len() < 4 {
-        return 0;
-    }
-    let said = expiring::insert(numbers, words, Tick(tick), key, value);
-    replay_expiring::store_said(answer, 0, said);
-    1
+    tell::change(numbers, words, answer, |numbers, words| {
+        expiring::insert(numbers, words, Tick(tick), key, value)
+    })
 }
 
 // Stores a value with a lifetime; one of exactly zero removes the key instead.
@@ -65,16 +53,10 @@ pub extern "C" fn hailtansy_insert_with_ttl(
 ) -> u64
     ensures { Called numbers.old words.old tick (insert_with_ttl key value (duration_of secs nanos)) answer.old numbers.new words.new answer.new result }
 {
-    if numbers.len() < 12 {
-        return 0;
-    }
-    if answer.len() < 4 {
-        return 0;
-    }
     let ttl = Duration::of(secs, nanos);
-    let said = expiring::insert_with_ttl(numbers, words, Tick(tick), key, value, ttl);
-    replay_expiring::store_said(answer, 0, said);
-    1
+    tell::change(numbers, words, answer, |numbers, words| {
+        expiring::insert_with_ttl(numbers, words, Tick(tick), key, value, ttl)
+    })
 }
 
 // Removes a key; the answer is its value.
@@ -88,15 +70,9 @@ pub extern "C" fn hailtansy_remove(
 ) -> u64
     ensures { Called numbers.old words.old tick (remove key) answer.old numbers.new words.new answer.new result }
 {
-    if numbers.len() < 12 {
-        return 0;
-    }
-    if answer.len() < 4 {
-        return 0;
-    }
-    let said = expiring::remove(numbers, words, Tick(tick), key);
-    replay_expiring::store_said(answer, 0, said);
-    1
+    tell::change(numbers, words, answer, |numbers, words| {
+        expiring::remove(numbers, words, Tick(tick), key)
+    })
 }
 
 // Removes all.
@@ -109,16 +85,12 @@ pub extern "C" fn hailtansy_clear(
 ) -> u64
     ensures { Called numbers.old words.old tick clear answer.old numbers.new words.new answer.new result }
 {
-    if numbers.len() < 12 {
-        return 0;
-    }
-    if answer.len() < 4 {
-        return 0;
-    }
-    let book = expiring::book_in(numbers);
-    let reply = book.clear(words, Tick(tick));
-    tell::store_reply(numbers, answer, reply);
-    1
+    tell::change_book(
+        numbers,
+        words,
+        answer,
+        |book, words| book.clear(words, Tick(tick)),
+    )
 }
 
 // Gives a stored key a lifetime.
@@ -134,16 +106,10 @@ pub extern "C" fn hailtansy_set_ttl(
 ) -> u64
     ensures { Called numbers.old words.old tick (set_ttl key (duration_of secs nanos)) answer.old numbers.new words.new answer.new result }
 {
-    if numbers.len() < 12 {
-        return 0;
-    }
-    if answer.len() < 4 {
-        return 0;
-    }
     let ttl = Duration::of(secs, nanos);
-    let said = expiring::set_ttl(numbers, words, Tick(tick), key, ttl);
-    replay_expiring::store_said(answer, 0, said);
-    1
+    tell::change(numbers, words, answer, |numbers, words| {
+        expiring::set_ttl(numbers, words, Tick(tick), key, ttl)
+    })
 }
 
 // Removes all that has expired; the answer is how many deadlines that were.
@@ -156,16 +122,12 @@ pub extern "C" fn hailtansy_purge_expired(
 ) -> u64
     ensures { Called numbers.old words.old tick purge_expired answer.old numbers.new words.new answer.new result }
 {
-    if numbers.len() < 12 {
-        return 0;
-    }
-    if answer.len() < 4 {
-        return 0;
-    }
-    let book = expiring::book_in(numbers);
-    let reply = book.purge_expired(words, Tick(tick));
-    tell::store_reply(numbers, answer, reply);
-    1
+    tell::change_book(
+        numbers,
+        words,
+        answer,
+        |book, words| book.purge_expired(words, Tick(tick)),
+    )
 }
 
 // The key that is due next, and its deadline.
@@ -178,16 +140,12 @@ pub extern "C" fn hailtansy_next_deadline(
 ) -> u64
     ensures { Called numbers.old words.old tick next_deadline answer.old numbers.new words.new answer.new result }
 {
-    if numbers.len() < 12 {
-        return 0;
-    }
-    if answer.len() < 4 {
-        return 0;
-    }
-    let book = expiring::book_in(numbers);
-    let reply = book.next_deadline(words, Tick(tick));
-    tell::store_reply(numbers, answer, reply);
-    1
+    tell::change_book(
+        numbers,
+        words,
+        answer,
+        |book, words| book.next_deadline(words, Tick(tick)),
+    )
 }
 
 // Makes a key the most recent.
@@ -201,16 +159,12 @@ pub extern "C" fn hailtansy_touch(
 ) -> u64
     ensures { Called numbers.old words.old tick (touch key) answer.old numbers.new words.new answer.new result }
 {
-    if numbers.len() < 12 {
-        return 0;
-    }
-    if answer.len() < 4 {
-        return 0;
-    }
-    let book = expiring::book_in(numbers);
-    let reply = book.touch(words, Tick(tick), key);
-    tell::store_reply(numbers, answer, reply);
-    1
+    tell::change_book(
+        numbers,
+        words,
+        answer,
+        |book, words| book.touch(words, Tick(tick), key),
+    )
 }
 
 // Removes the least recent item; the answer is that item.
@@ -223,14 +177,10 @@ pub extern "C" fn hailtansy_pop_lru(
 ) -> u64
     ensures { Called numbers.old words.old tick pop_lru answer.old numbers.new words.new answer.new result }
 {
-    if numbers.len() < 12 {
-        return 0;
-    }
-    if answer.len() < 4 {
-        return 0;
-    }
-    let book = expiring::book_in(numbers);
-    let reply = book.pop_lru(words, Tick(tick));
-    tell::store_reply(numbers, answer, reply);
-    1
+    tell::change_book(
+        numbers,
+        words,
+        answer,
+        |book, words| book.pop_lru(words, Tick(tick)),
+    )
 }

@@ -2,6 +2,7 @@
 ghost use Rattle.expiring_model.specs.Model.{contains, peek, ttl_status, recency_rank, live_len, expirations, peek_lru};
 ghost use Rattle.hailtansy.specs.Calls.{Looked};
 
+use crate::tell;
 use time::Tick;
 
 // Whether a key is stored and has not expired.
@@ -15,16 +16,11 @@ pub extern "C" fn hailtansy_contains(
 ) -> u64
     ensures { Looked numbers.now words.now tick (contains key) answer.old answer.new result }
 {
-    if numbers.len() < 12 {
-        return 0;
-    }
-    if answer.len() < 4 {
-        return 0;
-    }
-    let book = expiring::book_in(numbers);
-    let reply = book.contains(words, Tick(tick), key);
-    replay_expiring::store_answer(answer, 0, reply);
-    1
+    tell::look(
+        numbers,
+        answer,
+        |book| book.contains(words, Tick(tick), key),
+    )
 }
 
 // The value of a key, which keeps its place.
@@ -38,16 +34,7 @@ pub extern "C" fn hailtansy_peek(
 ) -> u64
     ensures { Looked numbers.now words.now tick (peek key) answer.old answer.new result }
 {
-    if numbers.len() < 12 {
-        return 0;
-    }
-    if answer.len() < 4 {
-        return 0;
-    }
-    let book = expiring::book_in(numbers);
-    let reply = book.peek(words, Tick(tick), key);
-    replay_expiring::store_answer(answer, 0, reply);
-    1
+    tell::look(numbers, answer, |book| book.peek(words, Tick(tick), key))
 }
 
 // Whether a key is missing, immortal, expired or live, and for how long.
@@ -61,16 +48,11 @@ pub extern "C" fn hailtansy_ttl_status(
 ) -> u64
     ensures { Looked numbers.now words.now tick (ttl_status key) answer.old answer.new result }
 {
-    if numbers.len() < 12 {
-        return 0;
-    }
-    if answer.len() < 4 {
-        return 0;
-    }
-    let book = expiring::book_in(numbers);
-    let reply = book.ttl_status(words, Tick(tick), key);
-    replay_expiring::store_answer(answer, 0, reply);
-    1
+    tell::look(
+        numbers,
+        answer,
+        |book| book.ttl_status(words, Tick(tick), key),
+    )
 }
 
 // How many keys are more recent.
@@ -84,16 +66,11 @@ pub extern "C" fn hailtansy_recency_rank(
 ) -> u64
     ensures { Looked numbers.now words.now tick (recency_rank key) answer.old answer.new result }
 {
-    if numbers.len() < 12 {
-        return 0;
-    }
-    if answer.len() < 4 {
-        return 0;
-    }
-    let book = expiring::book_in(numbers);
-    let reply = book.recency_rank(words, Tick(tick), key);
-    replay_expiring::store_answer(answer, 0, reply);
-    1
+    tell::look(
+        numbers,
+        answer,
+        |book| book.recency_rank(words, Tick(tick), key),
+    )
 }
 
 // How many are stored, less the expired deadlines held.
@@ -106,16 +83,7 @@ pub extern "C" fn hailtansy_live_len(
 ) -> u64
     ensures { Looked numbers.now words.now tick live_len answer.old answer.new result }
 {
-    if numbers.len() < 12 {
-        return 0;
-    }
-    if answer.len() < 4 {
-        return 0;
-    }
-    let book = expiring::book_in(numbers);
-    let reply = book.live_len(words, Tick(tick));
-    replay_expiring::store_answer(answer, 0, reply);
-    1
+    tell::look(numbers, answer, |book| book.live_len(words, Tick(tick)))
 }
 
 // How many have expired so far.
@@ -128,16 +96,7 @@ pub extern "C" fn hailtansy_expirations(
 ) -> u64
     ensures { Looked numbers.now words.now tick expirations answer.old answer.new result }
 {
-    if numbers.len() < 12 {
-        return 0;
-    }
-    if answer.len() < 4 {
-        return 0;
-    }
-    let book = expiring::book_in(numbers);
-    let reply = book.expirations(words, Tick(tick));
-    replay_expiring::store_answer(answer, 0, reply);
-    1
+    tell::look(numbers, answer, |book| book.expirations(words, Tick(tick)))
 }
 
 // The least recent item.
@@ -150,14 +109,5 @@ pub extern "C" fn hailtansy_peek_lru(
 ) -> u64
     ensures { Looked numbers.now words.now tick peek_lru answer.old answer.new result }
 {
-    if numbers.len() < 12 {
-        return 0;
-    }
-    if answer.len() < 4 {
-        return 0;
-    }
-    let book = expiring::book_in(numbers);
-    let reply = book.peek_lru(words, Tick(tick));
-    replay_expiring::store_answer(answer, 0, reply);
-    1
+    tell::look(numbers, answer, |book| book.peek_lru(words, Tick(tick)))
 }

@@ -7,8 +7,8 @@ use native.Mathlib.Omega.{arith}
 use lib.ListN.{length, get_or, length-set}
 use lib.Seq.{get_or-set_other}
 use Rattle.time.specs.declared.tick.Tick.{Tick}
-use Rattle.time.specs.declared.refusal.Outcome.{Outcome}
-use Rattle.time.specs.declared.refusal.Outcome.TheVariants as outcome
+use Rattle.std.specs.Prelude.{Result, Ok, Err, ⊤}
+use Rattle.time.specs.declared.refusal.Refusal.{Refusal}
 use Rattle.expiring.specs.declared.answers.Reply.{Reply}
 use Rattle.expiring.specs.declared.expiring.Expiring.{Expiring}
 use Rattle.expiring.specs.Book.{capacity_of, limit_of, IsBook, model_of}
@@ -48,9 +48,9 @@ limits_stay : (t : Tick) (c : Call) (p : Book) → Limits p (book_after t c p)
 unfolding book_after accepted
 limits_stay t c p = go (refusal_of t c p) refl
   where
-    go : (o : Outcome) → refusal_of t c p ≡ o → Limits p (book_after t c p)
-    go outcome.Done q = rw q (record { capacity = refl; limit = refl; lifetime = refl })
-    go (outcome.Refused why) q = rw q (record { capacity = refl; limit = refl; lifetime = refl })
+    go : (o : Result ⊤ Refusal) → refusal_of t c p ≡ o → Limits p (book_after t c p)
+    go (Ok done) q = rw q (record { capacity = refl; limit = refl; lifetime = refl })
+    go (Err why) q = rw q (record { capacity = refl; limit = refl; lifetime = refl })
 
 -- the book b has these numbers of a
 record Fixed (a b : Expiring) : Type 0 where

@@ -13,7 +13,7 @@ use lib.Seq.{get_or-set_same, get_or-set_other}
 use borrow.Author.Tests.{ne_eqb}
 use Rattle.time.specs.declared.tick.Tick.{Tick}
 use Rattle.time.specs.declared.duration.Duration.{Duration}
-use Rattle.time.specs.declared.refusal.Outcome.TheVariants.{Done}
+use Rattle.std.specs.Prelude.{Ok}
 use Rattle.lazy_heap_model.specs.Model.{heap_len, opened}
 use Rattle.expiring_model.specs.declared.answers.Answer.{Answer}
 use Rattle.expiring_model.specs.declared.answers.Answer.TheVariants as answer
@@ -27,7 +27,8 @@ use Rattle.expiring.proofs.Runs.{ReadsAs}
 use Rattle.replay.specs.declared.answer.Answer as replay
 use Rattle.replay.specs.Answers.{words}
 use Rattle.replay.specs.Runs.{with_answer}
-use Rattle.replay_expiring.specs.Words.{Asked, changing, asked_at, call_of, call_in, of_answer}
+use Rattle.replay_expiring.specs.declared.call.Asked.{Asked}
+use Rattle.replay_expiring.specs.Words.{changing, asked_at, call_of, call_in, of_answer}
 use Rattle.expiring.specs.Numbers.{book_in}
 use Rattle.replay_expiring.specs.Runs.{of_reply, Turn, changed, looked, Run, none, more, Replayed, Fits, default_by, outcome_by, Opens, calls_in, told_in, discarded_in, words_of, AsThePlainBook}
 use Rattle.replay_expiring.proofs.Laws.{changed_stored, changed_past}
@@ -212,7 +213,7 @@ run_past none j h = refl
 run_past (more run t) j h = turn_past t j h ∙ run_past run j h
 
 -- ---- demand 3: calls from outside on what an opening from outside left
-pub as_the_plain_book : {ns ws how said ns₁ ws₁ said₁ cs out ns' ws' out' : List ℕ} {n k : ℕ} → Fits ns how said → Opens ns ws how said ns₁ ws₁ said₁ n → outcome_by how ws ≡ Done → Replayed ns₁ ws₁ cs out ns' ws' out' k → AsThePlainBook (fresh (get_or how 0 0) (get_or how 1 0) (default_of (default_by how))) cs k ns' ws' out'
+pub as_the_plain_book : {ns ws how said ns₁ ws₁ said₁ cs out ns' ws' out' : List ℕ} {n k : ℕ} → Fits ns how said → Opens ns ws how said ns₁ ws₁ said₁ n → outcome_by how ws ≡ Ok tt → Replayed ns₁ ws₁ cs out ns' ws' out' k → AsThePlainBook (fresh (get_or how 0 0) (get_or how 1 0) (default_of (default_by how))) cs k ns' ws' out'
 unfolding fresh opened
 as_the_plain_book {how = how} {ns₁ = ns₁} fits opens done ran =
     let enough : 12 ≤ length ns₁ = omega (arith, opens.size, fits.numbers) in

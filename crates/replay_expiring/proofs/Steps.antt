@@ -5,8 +5,8 @@ use mathlib.Core.List.{List, [], ◌∷◌}
 use Prim.Native.Nat.{ℕ, ◌+◌, ◌-◌, ◌^◌, ◌<◌, min}
 use native.Mathlib.Omega.{arith}
 use Rattle.time.specs.declared.tick.Tick.{Tick}
-use Rattle.time.specs.declared.refusal.Outcome.{Outcome}
-use Rattle.time.specs.declared.refusal.Outcome.TheVariants as outcome
+use Rattle.std.specs.Prelude.{Result, Ok, Err, ⊤}
+use Rattle.time.specs.declared.refusal.Refusal.{Refusal}
 use Rattle.lazy_heap_model.specs.Model.{Heap, heap_len}
 use Rattle.expiring_model.specs.declared.answers.Answer.{Answer}
 use Rattle.expiring.specs.declared.answers.Reply.{Reply}
@@ -62,9 +62,9 @@ pub within : (t : Tick) (c : Call) (p : Book) → p.expirations < 2 ^ 64 → (bo
 unfolding book_after accepted
 within t c p h = go (refusal_of t c p) refl
   where
-    go : (o : Outcome) → refusal_of t c p ≡ o → (book_after t c p).expirations < 2 ^ 64
-    go outcome.Done q = rw q (omega arith)
-    go (outcome.Refused why) q = rw q h
+    go : (o : Result ⊤ Refusal) → refusal_of t c p ≡ o → (book_after t c p).expirations < 2 ^ 64
+    go (Ok done) q = rw q (omega arith)
+    go (Err why) q = rw q h
 
 -- ---- a call with the answer a and n entries discarded, on a book that stands for p
 pub record Step (t : Tick) (c : Call) (ws : List ℕ) (b : Expiring) (p : Book) (a : Answer) (n : ℕ) (ws₁ : List ℕ) (b₁ : Expiring) : Type 0 where

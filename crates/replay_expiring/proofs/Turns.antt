@@ -4,7 +4,8 @@ use mathlib.Core.List.{List}
 use Prim.Native.Nat.{ℕ, ◌<◌, ◌≤◌}
 use lib.ListN.{length}
 use Rattle.expiring.specs.declared.answers.Reply.{Reply}
-use Rattle.expiring.specs.declared.expiring.changes.Said.{Said}
+use Rattle.lazy_heap_model.specs.declared.counted.Counted.{Counted}
+use Rattle.expiring_model.specs.declared.answers.Answer.{Answer}
 use Rattle.expiring.specs.declared.expiring.Expiring.{Expiring}
 use Rattle.expiring_model.specs.Model.{Call}
 use Rattle.expiring.specs.Calls.{Following}
@@ -12,7 +13,8 @@ use Rattle.expiring.specs.Changes.{reply_in, Changing}
 use Rattle.expiring.proofs.Storing.{stay_changed}
 use Rattle.replay.specs.Runs.{with_answer}
 use Rattle.expiring.specs.Numbers.{book_in, with_changed}
-use Rattle.replay_expiring.specs.Words.{Asked, call_of, of_answer}
+use Rattle.replay_expiring.specs.declared.call.Asked.{Asked}
+use Rattle.replay_expiring.specs.Words.{call_of, of_answer}
 use Rattle.replay_expiring.specs.Words as words
 use Rattle.replay_expiring.specs.Runs as runs
 use Rattle.replay_expiring.specs.Runs.{of_reply, Turn}
@@ -25,5 +27,5 @@ module _ {a : Asked} {o i : ℕ} {ns ws out out' : List ℕ} {b : Expiring} {c :
   looked h f told = rw told (runs.looked {r = r} (rw is h) (rw is (rw call (rw book at f))))
 
 -- a call on the numbers themselves
-pub changing : (ns ns' : List ℕ) {a : Asked} {o i : ℕ} {ws ws' out out' : List ℕ} {c : Call} {s : Said} → 12 ≤ length ns → a.operation ≡ o → call_of o a.key a.value a.ttl ≡ c → o < words.changing → Changing ns ws a.tick c ns' ws' s → out' ≡ with_answer out i (of_answer s.answer s.discarded) → Turn a i ns ws out ns' ws' out'
+pub changing : (ns ns' : List ℕ) {a : Asked} {o i : ℕ} {ws ws' out out' : List ℕ} {c : Call} {s : Counted Answer} → 12 ≤ length ns → a.operation ≡ o → call_of o a.key a.value a.ttl ≡ c → o < words.changing → Changing ns ws a.tick c ns' ws' s → out' ≡ with_answer out i (of_answer s.answer s.discarded) → Turn a i ns ws out ns' ws' out'
 changing ns ns' {a} {i = i} {ws = ws} {ws'} {out} {out'} {s = s} n is call h f told = subst (λ ms. Turn a i ns ws out ms ws' out') (sym (stay_changed ns ns' n f.stay)) (rw told (runs.changed {ws' = ws'} {r = reply_in ns' s} (rw is h) (rw is (rw call (f.call n)))))

@@ -1,19 +1,21 @@
 -- What the exported functions promise.
-use Rattle.std.specs.Prelude.{◌≡◌, List, [], ◌∷◌, ◌++◌, ℕ, zero, suc, ◌+◌, ◌*◌, ◌/◌, ◌<◌, ◌≤◌, min, length, get_or}
-use Rattle.time.specs.declared.refusal.Outcome.{Outcome}
+use Rattle.std.specs.Prelude.{◌≡◌, Option, Result, Ok, Err, ⊤, List, [], ◌∷◌, ◌++◌, ℕ, zero, suc, ◌+◌, ◌*◌, ◌/◌, ◌<◌, ◌≤◌, min, length, get_or}
+use Rattle.time.specs.declared.refusal.Refusal.{Refusal}
+use Rattle.time.specs.declared.duration.Duration.{Duration}
 use Rattle.lazy_heap_model.specs.Model.{heap_len}
 use Rattle.expiring_model.specs.declared.answers.Answer.{Answer}
 use Rattle.expiring.specs.declared.answers.Reply.{Reply}
-use Rattle.expiring_model.specs.declared.lifetimes.DefaultDuration.{DefaultDuration}
+use Rattle.expiring.specs.declared.expiring.Expiring.{Expiring}
 use Rattle.expiring_model.specs.Model.{Book}
 use Rattle.expiring.specs.Book.{IsBook, heap_of, model_of}
-use Rattle.expiring.specs.Calls.{Following, Opening, opening_of}
+use Rattle.expiring.specs.Calls.{no_book, Following, Opening, opening_of}
 use Rattle.expiring_model.specs.Lists.{Calls, answers_of, book_at_end}
 use Rattle.replay.specs.declared.answer.Answer as replay
 use Rattle.replay.specs.Answers.{words}
 use Rattle.replay.specs.Runs.{with_answer}
 use Rattle.expiring.specs.Numbers.{book_in, with_changed}
-use Rattle.replay_expiring.specs.Words.{Asked, operations, changing, asked_at, call_in, default_of, of_answer, of_outcome}
+use Rattle.replay_expiring.specs.declared.call.Asked.{Asked}
+use Rattle.replay_expiring.specs.Words.{operations, changing, asked_at, call_in, default_of, of_answer, of_outcome}
 
 -- ---- a list of calls
 -- how many calls there are with room for an answer
@@ -54,17 +56,23 @@ pub record Fits (ns cs out : List ℕ) : Type 0 where
   pub opening : 6 ≤ length cs
   pub answer : 4 ≤ length out
 
-abbrev pub default_by : List ℕ → DefaultDuration
+abbrev pub default_by : List ℕ → Option Duration
 default_by cs = default_of (get_or cs 3 0) (get_or cs 4 0) (get_or cs 5 0)
 
-abbrev pub outcome_by : List ℕ → List ℕ → Outcome
+abbrev pub outcome_by : List ℕ → List ℕ → Result ⊤ Refusal
 outcome_by cs ws = opening_of (get_or cs 0 0) (get_or cs 1 0) (length ws) (default_by cs)
+
+-- an opening with this outcome, of this book where it is one
+abbrev pub opening_with : Result ⊤ Refusal → Expiring → Result Expiring Refusal
+opening_with (Ok done) b = Ok b
+opening_with (Err why) b = Err why
 
 -- `expiring_open`: the book's opening by the words cs, with its numbers and its answer written; without room, nothing
 pub record Opens (ns ws cs out ns' ws' out' : List ℕ) (k : ℕ) : Type 0 where
   pub few : (Fits ns cs out → ⊥) → (k ≡ 0) × (ns' ≡ ns) × (ws' ≡ ws) × (out' ≡ out)
   pub ran : Fits ns cs out → k ≡ 1
-  pub opened : Fits ns cs out → Opening ws (get_or cs 0 0) (get_or cs 1 0) (get_or cs 2 0) (default_by cs) ws' (record { book = book_in ns'; outcome = outcome_by cs ws })
+  pub opened : Fits ns cs out → Opening ws (get_or cs 0 0) (get_or cs 1 0) (get_or cs 2 0) (default_by cs) ws' (opening_with (outcome_by cs ws) (book_in ns'))
+  pub none : Fits ns cs out → (why : Refusal) → outcome_by cs ws ≡ Err why → book_in ns' ≡ no_book
   pub answer : Fits ns cs out → out' ≡ with_answer out 0 (of_outcome (outcome_by cs ws))
   pub size : length ns' ≡ length ns
   pub past : (j : ℕ) → 12 ≤ j → get_or ns' j 0 ≡ get_or ns j 0

@@ -1,27 +1,19 @@
 -- Calls, openings and answers in words.
-use Rattle.std.specs.Prelude.{cond, List, ℕ, ◌+◌, ◌*◌, ◌≤◌, eqb, length, get_or}
-use Rattle.time.specs.declared.tick.Tick.{Tick}
+use Rattle.std.specs.Prelude.{cond, Option, Some, None, Result, ⊤, List, ℕ, ◌+◌, ◌*◌, eqb, get_or}
 use Rattle.time.specs.declared.duration.Duration.{Duration}
 use Rattle.time.specs.Duration.{duration_of}
-use Rattle.time.specs.declared.refusal.Outcome.{Outcome}
-use Rattle.time.specs.declared.refusal.Outcome.TheVariants as outcome
+use Rattle.time.specs.declared.refusal.Refusal.{Refusal}
 use Rattle.time.specs.Refusal.{number_of}
 use Rattle.expiring_model.specs.declared.answers.Answer.{Answer}
 use Rattle.expiring_model.specs.declared.answers.Answer.TheVariants as answer
-use Rattle.expiring_model.specs.declared.lifetimes.DefaultDuration.{DefaultDuration}
-use Rattle.expiring_model.specs.declared.lifetimes.DefaultDuration.TheVariants as asked
 use Rattle.expiring_model.specs.Model.{Call, insert, insert_with_ttl, get, remove, clear, set_ttl, purge_expired, next_deadline, touch, pop_lru, contains, peek, ttl_status, recency_rank, live_len, expirations, peek_lru}
+use Rattle.replay_expiring.specs.declared.call.Asked.{Asked}
 use Rattle.replay.specs.declared.answer.Answer as replay
-use Rattle.replay.specs.Answers.{words, nothing, number, pair, done, refused}
+use Rattle.replay.specs.declared.answer.Code.TheVariants as code
+use Rattle.replay.specs.Answers.{words, yes, no, nothing, number, pair, done, refused}
+use Rattle.replay.specs.Told.{of_done, of_call}
 
--- ---- a call: operation, tick, key, value, seconds, nanoseconds. It may be that there is no such operation.
-pub record Asked : Type 0 where
-  pub operation : ℕ
-  pub tick : Tick
-  pub key : ℕ
-  pub value : ℕ
-  pub ttl : Duration
-
+-- ---- a call. It may be that there is no such operation.
 -- the i-th call, counted from 0
 abbrev pub asked_at : List ℕ → ℕ → Asked
 asked_at cs i = record {
@@ -31,12 +23,6 @@ asked_at cs i = record {
   value = get_or cs (6 * i + 3) 0;
   ttl = duration_of (get_or cs (6 * i + 4) 0) (get_or cs (6 * i + 5) 0);
 }
-
--- the book's numbers, the i-th call's words and room for its answer
-pub record Room (ns cs out : List ℕ) (i : ℕ) : Type 0 where
-  pub numbers : 12 ≤ length ns
-  pub call : 6 * i + 6 ≤ length cs
-  pub answer : 4 * i + 4 ≤ length out
 
 -- how many operations there are
 abbrev pub operations : ℕ
@@ -82,19 +68,19 @@ call_in a = call_of a.operation a.key a.value a.ttl
 
 -- ---- an opening: capacity, limit of deadlines, first sequence number, whether there is a default lifetime, its seconds and
 -- its nanoseconds
-abbrev pub default_of : ℕ → ℕ → ℕ → DefaultDuration
-default_of given secs nanos = cond (eqb given 0) asked.Nothing (asked.Of (duration_of secs nanos))
+abbrev pub default_of : ℕ → ℕ → ℕ → Option Duration
+default_of given secs nanos = cond (eqb given 0) None (Some (duration_of secs nanos))
 
 -- ---- answers, with how many entries were discarded. Which number or pair it is, the call tells.
 abbrev pub of_answer : Answer → ℕ → replay.Answer
 of_answer answer.Nothing d = nothing d
 of_answer (answer.Value v) d = number v d
-of_answer answer.Yes d = words 1 0 0 d
-of_answer answer.No d = words 0 0 0 d
-of_answer answer.Missing d = words 12 0 0 d
-of_answer answer.Immortal d = words 13 0 0 d
-of_answer answer.Expired d = words 14 0 0 d
-of_answer (answer.Live l t) d = words 15 l.0 t.0 d
+of_answer answer.Yes d = yes d
+of_answer answer.No d = no d
+of_answer answer.Missing d = words code.Missing 0 0 d
+of_answer answer.Immortal d = words code.Immortal 0 0 d
+of_answer answer.Expired d = words code.Expired 0 0 d
+of_answer (answer.Live l t) d = words code.Live l.0 t.0 d
 of_answer (answer.Count n) d = number n d
 of_answer (answer.Due k t) d = pair k t.0 d
 of_answer (answer.Item k v) d = pair k v d
@@ -102,6 +88,5 @@ of_answer (answer.Rank n) d = number n d
 of_answer answer.Done d = done d
 of_answer (answer.Refused why) d = refused (number_of why) d
 
-abbrev pub of_outcome : Outcome → replay.Answer
-of_outcome outcome.Done = done 0
-of_outcome (outcome.Refused why) = refused (number_of why) 0
+abbrev pub of_outcome : Result ⊤ Refusal → replay.Answer
+of_outcome o = of_call of_done o

@@ -1,11 +1,8 @@
 // A book's opening, and the check.
 ghost use Rattle.std.specs.Prelude.{◌≡◌};
-ghost use Rattle.replay_expiring.specs.Words.{default_of};
 ghost use Rattle.replay_expiring.specs.Runs.{Opens, Checked};
 
-use crate::answer;
 use expiring::Expiring;
-use expiring_model::DefaultDuration;
 use time::Duration;
 
 // Opens a book in the words, and writes its numbers and an answer. Says 1, or 0 where it did nothing: where there are fewer
@@ -18,16 +15,10 @@ pub fn expiring_open(
 ) -> u64
     ensures { Opens numbers.old words.old opening.now answer.old numbers.new words.new answer.new result }
 {
-    if numbers.len() < 12 {
+    if numbers.len() < 12 || opening.len() < 6 || answer.len() < 4 {
         return 0;
     }
-    if opening.len() < 6 {
-        return 0;
-    }
-    if answer.len() < 4 {
-        return 0;
-    }
-    let default_ttl = default_of(opening[3], opening[4], opening[5]);
+    let default_ttl = (opening[3] != 0).then_some(Duration::of(opening[4], opening[5]));
     let opened = Expiring::open(
         words,
         opening[0] as usize,
@@ -35,20 +26,9 @@ pub fn expiring_open(
         opening[2],
         default_ttl,
     );
-    let book = opened.book;
-    let outcome = opened.outcome;
-    expiring::store_book(numbers, book);
-    replay::store_answer(answer, 0, answer::of_outcome(outcome));
+    expiring::store_book(numbers, opened.unwrap_or_default());
+    replay::store_answer(answer, 0, replay::opened(opened));
     1
-}
-
-fn default_of(given: u64, secs: u64, nanos: u64) -> DefaultDuration
-    ensures { result ≡ default_of given secs nanos }
-{
-    if given == 0 {
-        return DefaultDuration::Nothing;
-    }
-    DefaultDuration::Of(Duration::of(secs, nanos))
 }
 
 // 1 where words and numbers form a book, otherwise 0.
@@ -58,9 +38,5 @@ pub fn expiring_check(numbers: &[u64], words: &[u64]) -> u64
     if numbers.len() < 12 {
         return 0;
     }
-    let book = expiring::book_in(numbers);
-    if book.check(words) {
-        return 1;
-    }
-    0
+    expiring::book_in(numbers).check(words) as u64
 }

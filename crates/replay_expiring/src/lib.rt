@@ -39,10 +39,10 @@
 
 mod answer;
 mod book;
-mod change;
+mod call;
 mod list;
-mod look;
 mod tell;
+mod turn;
 
 pub use book::{expiring_check, expiring_open};
 pub use list::expiring_replay;

@@ -6,15 +6,17 @@ ghost use Rattle.replay_expiring.specs.Words.{of_answer};
 ghost use Rattle.replay_expiring.specs.Runs.{of_reply};
 
 use crate::answer;
-use expiring::{Reply, Said};
+use expiring::Reply;
+use expiring_model::Answer;
+use lazy_heap_model::Counted;
 
 // Writes what a call on the numbers themselves said as the i-th answer.
-pub fn store_said(answers: &mut [u64], i: usize, said: Said)
+pub fn store_said(answers: &mut [u64], i: usize, said: Counted<Answer>)
     requires { 4 * i + 4 ≤ length answers.old }
     ensures { answers.new ≡ with_answer answers.old i (of_answer said.answer said.discarded) }
 {
-    let answer = said.answer;
-    replay::store_answer(answers, i, answer::of_answer(answer, said.discarded as u64));
+    let told = answer::of_answer(said.answer, said.discarded as u64);
+    replay::store_answer(answers, i, told);
 }
 
 // Writes the answer as the i-th.
@@ -22,8 +24,8 @@ pub fn store_answer(answers: &mut [u64], i: usize, reply: Reply)
     requires { 4 * i + 4 ≤ length answers.old }
     ensures { answers.new ≡ with_answer answers.old i (of_reply reply) }
 {
-    let said = reply.answer;
-    replay::store_answer(answers, i, answer::of_answer(said, reply.discarded as u64));
+    let told = answer::of_answer(reply.answer, reply.discarded as u64);
+    replay::store_answer(answers, i, told);
 }
 
 // Writes the numbers that a call may change, and the answer as the i-th.
@@ -31,7 +33,6 @@ pub fn store_reply(numbers: &mut [u64], answers: &mut [u64], i: usize, reply: Re
     requires { (12 ≤ length numbers.old) × (4 * i + 4 ≤ length answers.old) }
     ensures { (numbers.new ≡ with_changed numbers.old reply.book) × (answers.new ≡ with_answer answers.old i (of_reply reply)) }
 {
-    let book = reply.book;
-    expiring::store_changed(numbers, book);
+    expiring::store_changed(numbers, reply.book);
     store_answer(answers, i, reply);
 }

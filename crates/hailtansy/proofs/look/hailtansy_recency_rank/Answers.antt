@@ -1,14 +1,7 @@
--- The call is the book's own.
-use native.Mathlib.Omega.{arith}
+use Rattle.std.proofs.Common.{rules}
 use Rattle.replay_expiring.proofs.Steps.{at_recency_rank}
-use Rattle.hailtansy.proofs.Laws.{unseen_numbers, unseen_words, looked}
+use Rattle.hailtansy.proofs.Laws.{is_look}
 use Rattle.hailtansy.proofs.look.hailtansy_recency_rank.Goals as goal
 
-pub returns-then-numbers-lt12 : goal.returns-then-numbers-lt12
-returns-then-numbers-lt12 c = unseen_numbers at_recency_rank (omega (arith, c.if-numbers-lt12.true))
-
-pub returns-then-answer-lt4 : goal.returns-then-answer-lt4
-returns-then-answer-lt4 c = unseen_words at_recency_rank (omega (arith, c.if-answer-lt4.true))
-
 pub returns : goal.returns
-returns c = looked at_recency_rank (omega (arith, c.if-numbers-lt12.false)) (omega (arith, c.if-answer-lt4.false)) (rw c.book_in-book.ensures at c.recency_rank-reply.ensures) c.store_answer.ensures
+returns c = c.look.ensures _ _ _ (is_look _ at_recency_rank) (λ _ post. search rules)
