@@ -1,26 +1,29 @@
 // A line as far as it has been read. Text beside its length: nothing here takes memory from the heap.
 ghost use Rattle.std.specs.Prelude.{◌≤◌};
+ghost use Rattle.clock_samples.specs.declared.line.TheConstants.{KEPT};
 
-// The longest line that is a question. A longer one keeps one byte more, by which it is known.
+// The longest line that is a question. Of a longer one a byte more is kept, by which it is known.
 const LONGEST: usize = 128;
+
+const KEPT: usize = LONGEST + 1;
 
 #[derive(Drop)]
 pub struct Line {
-    text: [u8; 129],
+    text: [u8; KEPT],
     length: usize,
-    ghost fits: { length ≤ 129 },
+    ghost fits: { length ≤ KEPT },
 }
 
 impl Line {
     pub fn new() -> Line {
         Line {
-            text: [0; 129],
+            text: [0; KEPT],
             length: 0,
         }
     }
 
     pub fn push(&mut self, byte: u8) {
-        if self.length <= LONGEST {
+        if self.length < KEPT {
             self.text[self.length] = byte;
             self.length += 1;
         }
