@@ -42,12 +42,17 @@ pub record Popping (ws : List ℕ) (h : LazyMinHeap) (ws' : List ℕ) (h' : Lazy
   pub parts : Parts ws h → Parts ws' h'
   pub entries : Parts ws h → entries_of ws' h' ≡ rest (entries_of ws h)
 
--- `take_top`
+-- the first entry gone, and a key
 pub record Taking (ws : List ℕ) (h : LazyMinHeap) (k : ℕ) (ws' : List ℕ) (h' : LazyMinHeap) : Type 0 where
   pub capacity : h'.scores.capacity ≡ h.scores.capacity
   pub parts : Parts ws h → Parts ws' h'
   pub model : Parts ws h → model_of ws' h' ≡ removed k (record { limit = h.scores.capacity; factor = h.factor; next = h.seq; held = held_of ws h; entries = rest (entries_of ws h) })
   pub kept : Kept h.scores.capacity ws ws'
+
+-- `take_top`
+abbrev pub TakingTop : List ℕ → LazyMinHeap → Option Entry → List ℕ → LazyMinHeap → Type 0
+TakingTop ws h (Some e) ws' h' = Taking ws h e.key ws' h'
+TakingTop ws h None ws' h' = (h' ≡ h) × (ws' ≡ ws)
 
 -- `top`
 pub record Peeking (ws : List ℕ) (h : LazyMinHeap) (r : Option Entry) : Type 0 where
@@ -80,6 +85,11 @@ pub record Discarding (ws : List ℕ) (h : LazyMinHeap) (ws' : List ℕ) (h' : L
 abbrev pub best_of : Option Entry → Option (ℕ × ℕ)
 best_of (Some e) = Some (e.key, e.score)
 best_of None = None
+
+-- an entry whose score is at most this one
+abbrev pub within : ℕ → Option Entry → Option Entry
+within s (Some e) = cond (leb e.score s) (Some e) None
+within s None = None
 
 -- the score in what `put` replaced
 abbrev pub replaced_score : Result (Option Record) PutError → Option ℕ

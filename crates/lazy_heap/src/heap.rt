@@ -4,7 +4,7 @@ ghost use Rattle.linked_hash_map.specs.Calls.{place_of};
 ghost use Rattle.lazy_heap.specs.Words.{Room};
 ghost use Rattle.lazy_heap_model.specs.Model.{at_least_one, factor_of, len, heap_len, at_most};
 ghost use Rattle.lazy_heap.specs.Calls.{Opening, Resetting, Asking, is_empty, score_of, Removing, PeekingBest, PoppingBest, PoppingAtMost, RebuildingNow, RebuildingMaybe, RenumberingNow, Clearing, Updating, Checking};
-ghost use Rattle.lazy_heap.specs.Steps.{best_of, is_over, Storing, TakingKey, Living, Pushing, Popping, Peeking, CountingEntries, Taking, Settled, Discarding, Rebuilding, Numbered, Renumbering, Fitting, Trimming, Holding};
+ghost use Rattle.lazy_heap.specs.Steps.{best_of, within, is_over, Storing, TakingKey, Living, Pushing, Popping, Peeking, CountingEntries, TakingTop, Settled, Discarding, Rebuilding, Numbered, Renumbering, Fitting, Trimming, Holding};
 ghost use Rattle.lazy_heap.specs.Walks.{CountingWithin, Sound, Agreeing};
 
 use crate::{layout, walks};
@@ -79,6 +79,13 @@ fn best_of(top: Option<Entry>) -> Option<(u64, u64)>
     ensures { result ≡ best_of top }
 {
     top.map(|e| (e.key, e.score))
+}
+
+// The entry, if its score is at most this one.
+fn within(top: Option<Entry>, score: u64) -> Option<Entry>
+    ensures { result ≡ within score top }
+{
+    top.filter(|e| e.score <= score)
 }
 
 impl LazyMinHeap {
@@ -201,19 +208,12 @@ impl LazyMinHeap {
     {
         limits::heap(self.scores.capacity, words.len())?;
         let discarded = self.settle(words);
-        match self.top(words) {
-            Some(e) => {
-                self.take_top(words, e.key);
-                Ok(Counted {
-                    answer: Some((e.key, e.score)),
-                    discarded,
-                })
-            }
-            None => Ok(Counted {
-                answer: None,
-                discarded,
-            }),
-        }
+        let best = self.top(words);
+        self.take_top(words, best);
+        Ok(Counted {
+            answer: best_of(best),
+            discarded,
+        })
     }
 
     // The same, where that key's score is at most this one. Else it answers that there is none, and the key stays.
@@ -226,19 +226,12 @@ impl LazyMinHeap {
     {
         limits::heap(self.scores.capacity, words.len())?;
         let discarded = self.settle(words);
-        match self.top(words) {
-            Some(e) if e.score <= score => {
-                self.take_top(words, e.key);
-                Ok(Counted {
-                    answer: Some((e.key, e.score)),
-                    discarded,
-                })
-            }
-            _ => Ok(Counted {
-                answer: None,
-                discarded,
-            }),
-        }
+        let best = within(self.top(words), score);
+        self.take_top(words, best);
+        Ok(Counted {
+            answer: best_of(best),
+            discarded,
+        })
     }
 
     // ---- all entries at once: these answer how many they discarded
@@ -561,12 +554,14 @@ impl LazyMinHeap {
         })
     }
 
-    // Takes the first entry out, and a key.
-    fn take_top(&mut self, words: &mut [u64], key: u64)
+    // Takes the first entry out, and its key; nothing where none is given.
+    fn take_top(&mut self, words: &mut [u64], top: Option<Entry>)
         requires { Room (length words.old) self.old.scores.capacity }
-        ensures { Taking words.old self.old key words.new self.new }
+        ensures { TakingTop words.old self.old top words.new self.new }
     {
-        self.pop(words);
-        take_key(&mut self.scores, words, key);
+        if let Some(e) = top {
+            self.pop(words);
+            take_key(&mut self.scores, words, e.key);
+        }
     }
 }
