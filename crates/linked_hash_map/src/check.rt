@@ -15,8 +15,7 @@ pub fn walks(words: &[u64], n: usize, s: usize, k: usize) -> bool
     ensures { result ≡ walksOf words.now n s s k }
 {
     let mut a = s;
-    let mut left = k;
-    while 0 < left {
+    for _ in 0..k {
         let x = words[5 * a + 4];
         if n as u64 <= x {
             return false;
@@ -26,12 +25,8 @@ pub fn walks(words: &[u64], n: usize, s: usize, k: usize) -> bool
             return false;
         }
         a = b;
-        left -= 1;
     }
-    if words[5 * a + 4] != s as u64 {
-        return false;
-    }
-    words[5 * s + 3] == a as u64
+    words[5 * a + 4] == s as u64 && words[5 * s + 3] == a as u64
 }
 
 // The probe of each live record's key ends at that record.
@@ -40,8 +35,7 @@ pub fn finds_all(words: &[u64], n: usize, len: usize) -> bool
     ensures { result ≡ finds_all words.now n len (next words.now n) }
 {
     let mut x = words[5 * n + 4];
-    let mut left = len;
-    while 0 < left {
+    for _ in 0..len {
         if n as u64 <= x {
             return false;
         }
@@ -50,7 +44,6 @@ pub fn finds_all(words: &[u64], n: usize, len: usize) -> bool
             return false;
         }
         x = words[5 * s + 4];
-        left -= 1;
     }
     true
 }
@@ -61,8 +54,7 @@ fn finds(words: &[u64], n: usize, slot: usize) -> bool
 {
     match index::probe(words, n, words[5 * slot]) {
         Probe::At(_, s) => s == slot,
-        Probe::Free(_) => false,
-        Probe::Full => false,
+        Probe::Free(_) | Probe::Full => false,
     }
 }
 
@@ -71,17 +63,12 @@ pub fn held(words: &[u64], n: usize) -> usize
     requires { Room (length words.now) n }
     ensures { result ≡ length (held_in words.now n (cell_count n)) }
 {
-    let count = 12 * n + 192;
     let mut held = 0;
-    let mut p = 0;
-    while p < count {
+    for p in 0..12 * n + 192 {
         let v = index::cell(words, n, p);
-        if 1 <= v {
-            if v <= n as u64 {
-                held += 1;
-            }
+        if 1 <= v && v <= n as u64 {
+            held += 1;
         }
-        p += 1;
     }
     held
 }

@@ -64,9 +64,8 @@ pub fn probe(words: &[u64], n: usize, key: u64) -> Probe
 {
     let count = 12 * n + 192;
     let mut p = home(n, key);
-    let mut left = count;
     let mut free = count;
-    while 0 < left {
+    for _ in 0..count {
         let v = cell(words, n, p);
         if v == 0 {
             if free < count {
@@ -85,7 +84,6 @@ pub fn probe(words: &[u64], n: usize, key: u64) -> Probe
             }
         }
         p = after(n, p);
-        left -= 1;
     }
     if free < count {
         Probe::Free(free)
@@ -99,11 +97,8 @@ pub fn enter(words: &mut [u64], n: usize, slot: usize)
     requires { Room (length words.old) n × (slot < n) }
     ensures { words.new ≡ entered words.old n slot }
 {
-    let key = words[5 * slot];
-    match probe(words, n, key) {
-        Probe::Free(c) => set_cell(words, n, c, slot as u64 + 1),
-        Probe::At(_, _) => {}
-        Probe::Full => {}
+    if let Probe::Free(c) = probe(words, n, words[5 * slot]) {
+        set_cell(words, n, c, slot as u64 + 1);
     }
 }
 
@@ -122,11 +117,5 @@ pub fn clear_cells(words: &mut [u64], n: usize)
     requires { Room (length words.old) n }
     ensures { words.new ≡ zeroed words.old (cells_from n) (cell_words n) }
 {
-    let from = 5 * n + 10;
-    let count = 3 * n + 48;
-    let mut i = 0;
-    while i < count {
-        words[from + i] = 0;
-        i += 1;
-    }
+    words[5 * n + 10..8 * n + 58].fill(0);
 }

@@ -1,5 +1,7 @@
 use mathlib.Core.Path.{refl, sym, ◌∙◌}
 use Rattle.linked_hash_map.specs.Checks.{finds_of}
+use Rattle.linked_hash_map.proofs.Probed.{none_at}
+use Rattle.linked_hash_map.proofs.Steps.{not_ended}
 use Rattle.linked_hash_map.proofs.check.finds.Goals as goal
 
 pub returns-in-At : goal.returns-in-At
@@ -8,8 +10,4 @@ returns-in-At c = rw (sym c.probe.ensures ∙ c.in-At.is) refl
 
 pub returns-in-Free : goal.returns-in-Free
 unfolding finds_of
-returns-in-Free c = rw (sym c.probe.ensures ∙ c.in-Free.is) refl
-
-pub returns-in-Full : goal.returns-in-Full
-unfolding finds_of
-returns-in-Full c = rw (sym c.probe.ensures ∙ c.in-Full.is) refl
+returns-in-Free c = rw (← c.probe.ensures) (not_ended _ _ (none_at c.in-Free.is))

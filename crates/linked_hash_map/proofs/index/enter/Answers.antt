@@ -1,8 +1,9 @@
 -- Each arm is the case of `taken_by` that the probe's end chose.
-use mathlib.Core.Path.{refl, sym, ◌∙◌}
+use mathlib.Core.Path.{sym, ◌∙◌}
 use borrow.Author.Rules.{rules}
 use Rattle.cells.specs.Probe.{entered}
 use Rattle.cells.proofs.Probing.{free_vacant}
+use Rattle.linked_hash_map.proofs.Steps.{not_taken}
 use Rattle.linked_hash_map.proofs.index.enter.Goals as goal
 
 pub set_cell-requires : goal.set_cell-requires
@@ -13,10 +14,6 @@ pub returns-in-Free : goal.returns-in-Free
 unfolding entered
 returns-in-Free c = rw (sym c.probe.ensures ∙ c.in-Free.is) c.set_cell.ensures
 
-pub returns-in-At : goal.returns-in-At
+pub returns-in_default : goal.returns-in_default
 unfolding entered
-returns-in-At c = rw (sym c.probe.ensures ∙ c.in-At.is) refl
-
-pub returns-in-Full : goal.returns-in-Full
-unfolding entered
-returns-in-Full c = rw (sym c.probe.ensures ∙ c.in-Full.is) refl
+returns-in_default c = rw (← c.probe.ensures) (not_taken _ _ _ _ c.in_default.not-Free)

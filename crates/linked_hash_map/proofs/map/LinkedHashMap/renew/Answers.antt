@@ -6,7 +6,6 @@ use Rattle.cells.specs.declared.Probe.{Probe}
 use Rattle.cells.specs.declared.Probe.TheVariants as probed
 use Rattle.cells.proofs.Probing.{free_vacant}
 use Rattle.linked_hash_map.proofs.Putting.{put_in_lem}
-use Rattle.linked_hash_map.proofs.Probed.{free_not_at, free_not_full}
 use Rattle.linked_hash_map.proofs.map.LinkedHashMap.renew.Goals as goal
 
 same_cell : {p : Probe} {c d : ℕ} → p ≡ probed.Free c → p ≡ probed.Free d → c ≡ d
@@ -20,12 +19,6 @@ returns-in-Free c =
     let e = sym c.probe.ensures ∙ c.in-Free.is in
     let w = put_in_lem _ _ _ _ _ c.write_record.ensures c.set_cell.ensures c.move_after.ensures in
     record {
-      put = λ d q. rw (same_cell q e) (rw w at c.renewed.ensures);
+      put = λ d q. rw (same_cell q e) (rw w at c.count_insertion.ensures);
       freed = λ none. absurd (none _ e);
     }
-
-pub returns-in-At : goal.returns-in-At
-returns-in-At c = let e = sym c.probe.ensures ∙ c.in-At.is in record { put = λ d q. absurd (free_not_at q _ _ e); freed = λ none. (c.shrunk.ensures, c.move_after-in-At.ensures) }
-
-pub returns-in-Full : goal.returns-in-Full
-returns-in-Full c = let e = sym c.probe.ensures ∙ c.in-Full.is in record { put = λ d q. absurd (free_not_full q e); freed = λ none. (c.shrunk-in-Full.ensures, c.move_after-in-Full.ensures) }

@@ -1,25 +1,16 @@
-use native.Mathlib.Omega.{arith}
-use Rattle.linked_hash_map.proofs.Limits.{no_room, room, is_room}
 use Rattle.linked_hash_map.proofs.Places.{taking_unfit, taking_past, taking_beyond, taking_at}
 use Rattle.linked_hash_map.proofs.map.LinkedHashMap.take_at.Goals as goal
+use Rattle.linked_hash_map.proofs.map.LinkedHashMap.take_at.Goals.{else-slot-self-via-then-slot-self+else-cell-self, else-slot-self-via-else-slot-self}
 
-pub returns-then-not-map : goal.returns-then-not-map
-returns-then-not-map c = taking_unfit _ _ (no_room c.map.ensures c.if-not-map.true-raw)
+pub returns-then-cell-self : goal.returns-then-cell-self
+returns-then-cell-self c = rw (c.take.ensures.record, c.take.ensures.words, c.take.ensures.numbers) (taking_at _ _ _ _ c.in-Ok.ensures.0 c.if-cell-self.true)
 
-pub returns-then-capacity-slot : goal.returns-then-capacity-slot
-returns-then-capacity-slot c = taking_past _ _ c.if-capacity-slot.true
+pub returns-else-slot-self : goal.returns-else-slot-self
+returns-else-slot-self c =
+    elim c.else-slot-self.branch [
+      | else-slot-self-via-then-slot-self+else-cell-self w ↦ taking_beyond _ _ _ _ w.if-cell-self.false
+      | else-slot-self-via-else-slot-self w ↦ taking_past _ _ _ _ w.if-slot-self.false
+    ]
 
-pub overflow_mul-capacity : goal.overflow_mul-capacity
-overflow_mul-capacity c = let r = is_room _ _ (room c.map.ensures c.if-not-map.false-raw) in omega (arith, r.limit)
-
-pub overflow_add-capacity : goal.overflow_add-capacity
-overflow_add-capacity c = let r = is_room _ _ (room c.map.ensures c.if-not-map.false-raw) in omega (arith, r.limit)
-
-pub returns-then-capacity-c : goal.returns-then-capacity-c
-returns-then-capacity-c c = taking_beyond _ _ c.if-capacity-c.true
-
-pub take-gone-requires : goal.take-gone-requires
-take-gone-requires c = (is_room _ _ (room c.map.ensures c.if-not-map.false-raw), omega arith, omega arith)
-
-pub returns : goal.returns
-returns c = rw (c.take-gone.ensures.0, c.take-gone.ensures.1) (taking_at _ _ _ _ (room c.map.ensures c.if-not-map.false-raw) (omega arith))
+pub returns-in_default : goal.returns-in_default
+returns-in_default c = taking_unfit _ _ _ _ c.in_default.ensures
