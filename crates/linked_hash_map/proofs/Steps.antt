@@ -2,8 +2,9 @@
 use mathlib.Core.Path.{◌≡◌, refl, sym, ap, ◌∙◌}
 use mathlib.Core.Bool.{Bool, true, false, cond}
 use mathlib.Core.List.{List, [], ◌∷◌, ◌++◌}
-use Prim.Native.Nat.{ℕ, zero, suc, ◌+◌, ◌-◌, ◌<◌, ◌≤◌}
+use Prim.Native.Nat.{ℕ, zero, suc, ◌+◌, ◌-◌, ◌*◌, ◌^◌, ◌<◌, ◌≤◌}
 use native.Mathlib.Omega.{arith}
+use lib.Dec.{lit<}
 use lib.ListN.{length, set, take, drop, replicate, length-set}
 use borrow.Rule.Slice.PartMut.{put_mid}
 use Rattle.std.proofs.lemmas.List.{append_assoc, take-append-drop, drop-drop, take_more_set, drop-set-lt, length-take-le, length-drop}
@@ -11,7 +12,8 @@ use borrow.Author.Tests.{lt-ltb, le-ltb}
 use Rattle.std.specs.Prelude.{Some, None}
 use Rattle.std.specs.Bool.{then_some}
 use Rattle.rings.specs.Ring.{next, attached}
-use Rattle.cells.specs.Cells.{zeroed}
+use Rattle.cells.specs.Cells.{weight, zeroed}
+use Rattle.cells.proofs.Packing.{put_lt}
 use Rattle.cells.specs.declared.Probe.{Probe}
 use Rattle.cells.specs.declared.Probe.TheVariants as probed
 use Rattle.cells.specs.Probe.{taken_by, entered}
@@ -48,6 +50,10 @@ zeroed_part b g f ws ys q h e =
     let n : length (take f (drop b ws)) ≡ f = length-take-le f (drop b ws) (omega (arith, length-drop b ws)) in
     let all : ys ≡ replicate f 0 = e ∙ ap (λ (x : ℕ). replicate (length (take x (drop b ws))) 0) q ∙ ap (λ (x : ℕ). replicate x 0) n in
     rw (q, all) (zeroed_mid b f ws h)
+
+-- a cell's value, where it stands in its word, fits a word
+pub digit_fits : (p v : ℕ) → v < 65536 → v * weight p < 2 ^ 64
+digit_fits p v h = let l = put_lt p 0 v (lit< tt) h in omega arith
 
 pub then_some_cond : (b : Bool) (x : ℕ) → then_some b x ≡ cond b (Some x) None
 then_some_cond true x = refl
