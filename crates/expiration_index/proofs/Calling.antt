@@ -14,7 +14,6 @@ use Rattle.time.specs.declared.tick.Tick.{Tick}
 use Rattle.time.specs.declared.refusal.Refusal.{Refusal}
 use Rattle.time.specs.declared.refusal.Refusal.TheVariants.{KeyLimitReached}
 use Rattle.binary_heap.specs.declared.entries.Entry.{Entry}
-use Rattle.linked_hash_map.specs.Model as held
 use Rattle.lazy_heap.specs.declared.heap.LazyMinHeap.{LazyMinHeap}
 use Rattle.lazy_heap_model.specs.declared.counted.Counted.{Counted}
 use Rattle.lazy_heap.specs.Answers.{outcome_of}
@@ -26,7 +25,7 @@ use Rattle.lazy_heap.specs.Calls as heap
 use Rattle.lazy_heap.proofs.Calling.{with_refused, with_small}
 use Rattle.lazy_heap.proofs.Laws.{room_limits}
 use Rattle.expiration_index.specs.declared.index.ExpirationIndex.{ExpirationIndex}
-use Rattle.expiration_index.specs.Model.{Pairs, deadline_of, is_full, without_expired}
+use Rattle.expiration_index.specs.Model.{Pairs, is_full, without_expired}
 use Rattle.expiration_index.specs.Answers.{deadline_in, due_in, beside}
 use Rattle.expiration_index.specs.Index.{IsIndex, deadlines, heap_of, model_of}
 use Rattle.expiration_index.specs.Calls.{limit, limits_in, Opening, Asking, Length, HeapLength, Emptiness, Containing, ExpiredCount, DeadlineOf, Checking, Call, emptied, Clearing, Removing, NextDeadline, popped_expired, PoppingExpired, Setting}
