@@ -50,7 +50,7 @@ fn weight_of(p: usize) -> u64
 }
 
 // Writes v into cell p.
-#[tactic(auto, unfolding(cells::specs::Cells::cell_at, cells::specs::Cells::set_cell), using(cells::proofs::Packing::digit_le, cells::proofs::Packing::put_lt, crate::proofs::Steps::digit_fits))]
+#[tactic(auto, unfolding(cells::specs::Cells::cell_at, cells::specs::Cells::set_cell), using(crate::proofs::Steps::fitting))]
 pub fn set_cell(words: &mut [u64], n: usize, p: usize, v: u64)
     requires { Room (length words.old) n × (p < cell_count n) × (v < 65536) }
     ensures { words.new ≡ set_cell words.old n p v }

@@ -52,7 +52,7 @@ const PREVIOUS: usize = 3;
 const NEXT: usize = 4;
 
 // All records free, and no cell used, whatever the words held.
-#[tactic(auto, unfolding(crate::specs::Words::emptied), using(crate::proofs::Steps::filled_on, crate::proofs::Steps::filled_end))]
+#[tactic(auto, unfolding(crate::specs::Words::emptied), using(crate::proofs::Steps::filling))]
 fn empty_words(words: &mut [u64], n: usize)
     requires { Room (length words.old) n }
     ensures { words.new ≡ emptied words.old n }
@@ -108,7 +108,7 @@ fn replace(words: &mut [u64], n: usize, slot: usize, item: Record) -> Record
 }
 
 // Enters the live records anew, front first.
-#[tactic(auto, unfolding(crate::specs::Words::refilled), using(crate::proofs::Steps::entered_on, crate::proofs::Steps::entered_past, crate::proofs::Steps::entered_end))]
+#[tactic(auto, unfolding(crate::specs::Words::refilled), using(crate::proofs::Steps::entering))]
 fn refill(words: &mut [u64], n: usize, len: usize)
     requires { Room (length words.old) n }
     ensures { words.new ≡ refilled words.old n len }
@@ -157,7 +157,7 @@ impl LinkedHashMap {
     }
 
     // The empty map, in words of any contents.
-    #[tactic(auto, using(crate::proofs::Opening::opening, crate::proofs::Opening::opening_refused, crate::proofs::Probed::err_unfit))]
+    #[tactic(auto, using(crate::proofs::Opening::openings))]
     pub fn open(words: &mut [u64], capacity: usize) -> Result<LinkedHashMap, Unfit>
         ensures { Opening words.old capacity words.new result }
     {
@@ -167,7 +167,7 @@ impl LinkedHashMap {
     }
 
     // The empty map. Very few records are removed one by one, which costs less than to wipe all cells.
-    #[tactic(auto, using(crate::proofs::Opening::clearing_refused, crate::proofs::Opening::clearing_drained, crate::proofs::Opening::clearing_wiped, crate::proofs::Probed::err_unfit))]
+    #[tactic(auto, using(crate::proofs::Opening::clearings))]
     pub fn clear(&mut self, words: &mut [u64]) -> Result<(), Unfit>
         ensures { Clearing words.old self.old words.new self.new result }
     {
@@ -191,7 +191,7 @@ impl LinkedHashMap {
         }
     }
 
-    #[tactic(auto, using(crate::proofs::Draining::drain_first, crate::proofs::Draining::drain_none, crate::proofs::Draining::drain_found, crate::proofs::Draining::drain_lost))]
+    #[tactic(auto, using(crate::proofs::Draining::drains))]
     fn remove_first(&mut self, words: &mut [u64])
         ensures { Draining words.old self.old (self.old.len - 1) words.new self.new }
     {
@@ -284,7 +284,7 @@ impl LinkedHashMap {
     }
 
     // Takes the record at this cell and slot out, and answers its first word.
-    #[tactic(auto, using(crate::proofs::Places::taking_unfit, crate::proofs::Places::taking_past, crate::proofs::Places::taking_beyond, crate::proofs::Places::taking_at))]
+    #[tactic(auto, using(crate::proofs::Places::takings))]
     pub fn take_at(&mut self, words: &mut [u64], cell: usize, slot: usize) -> u64
         ensures { TakingAt words.old self.old cell slot words.new self.new result }
     {
@@ -297,7 +297,7 @@ impl LinkedHashMap {
     }
 
     // Puts the record at the front, in the place of its key's old one where there is one, and hands that back.
-    #[tactic(auto, using(crate::proofs::Places::put_over, crate::proofs::Places::put_full, crate::proofs::Places::put_refused))]
+    #[tactic(auto, using(crate::proofs::Places::puttings))]
     pub fn put(&mut self, words: &mut [u64], item: Record) -> Result<Option<Record>, PutError>
         ensures { Putting words.old self.old item words.new self.new result }
     {
