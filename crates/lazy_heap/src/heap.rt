@@ -1,4 +1,6 @@
 // The heap's calls. A public call tests the limits, and its private steps may count on them.
+#![tactic(auto, using(crate::proofs::Calling::no_heap, crate::proofs::Calling::limits_room))]
+
 ghost use Rattle.std.specs.Prelude.{◌≡◌, ◌-◌, ◌^◌, ◌*◌, ◌<◌, length, ltb};
 ghost use Rattle.linked_hash_map.specs.Calls.{place_of};
 ghost use Rattle.lazy_heap.specs.Words.{Room};

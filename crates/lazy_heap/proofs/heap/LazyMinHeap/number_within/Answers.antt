@@ -15,6 +15,3 @@ returns-in_default c = numbering_lost c.loop-number.invariant (omega arith) (λ 
 
 pub loop-number-preserved : goal.loop-number-preserved
 loop-number-preserved c = let some : c.loop-number.at ≡ Ok (Some c.in-Ok-Some.s) = search rules in numbering_on c.loop-number.invariant (omega arith) some c.record-r.ensures c.set_payload.ensures c.previous-at.ensures
-
-pub returns : goal.returns
-returns c = numbering c.loop-number.invariant (λ is. omega (arith, is.count))

@@ -17,9 +17,6 @@ returns-in_default c = rebuilding_lost c.loop.invariant (omega arith) (λ s q. s
 pub returns-in_default-2 : goal.returns-in_default-2
 returns-in_default-2 c = rebuilding_lost c.loop.invariant (omega arith) (λ s q. search rules)
 
-pub push-requires : goal.push-requires
-push-requires c = room_entered c.loop.invariant.entered c.requires
-
 pub loop-preserved : goal.loop-preserved
 loop-preserved c = let some : c.loop.at ≡ Ok (Some c.in-Ok-Some.s) = search rules in refilling_on c.loop.invariant (omega arith) some c.record-r.ensures c.push.ensures c.previous-at.ensures
 
