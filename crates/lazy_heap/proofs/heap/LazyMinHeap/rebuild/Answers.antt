@@ -3,4 +3,4 @@ use Rattle.lazy_heap.proofs.Calling.{handed_on, limits_room, discards_refused, r
 use Rattle.lazy_heap.proofs.heap.LazyMinHeap.rebuild.Goals as goal
 
 pub returns : goal.returns
-returns c = rebuild_call (sym c.heap.ensures ∙ c.in_ok-heap.was) c.rebuild_within.ensures c.surplus-discarded.ensures
+returns c = rebuild_call (sym c.heap.ensures ∙ c.in_ok-heap.was) c.rebuild_within.ensures

@@ -2,4 +2,4 @@ use Rattle.lazy_heap.proofs.Stepping.{renumbering}
 use Rattle.lazy_heap.proofs.heap.LazyMinHeap.renumber_within.Goals as goal
 
 pub returns : goal.returns
-returns c = renumbering c.number_within.ensures c.rebuild_within.ensures
+returns c = renumbering c.number.ensures c.rebuild_within.ensures

@@ -5,7 +5,7 @@ use native.Mathlib.Omega.{arith}
 use Rattle.std.proofs.Common.{rules}
 use Rattle.lazy_heap.proofs.Refilling.{numbering_start, numbering_on}
 use Rattle.lazy_heap.proofs.Stepping.{numbering, numbering_lost}
-use Rattle.lazy_heap.proofs.heap.LazyMinHeap.number_within.Goals as goal
+use Rattle.lazy_heap.proofs.walks.number.Goals as goal
 
 pub loop-number-init : goal.loop-number-init
 loop-number-init c = let all : c.args.scores.len - 0 ≡ c.args.scores.len = omega arith in rw all (numbering_start _ _ c.last-at.ensures)
