@@ -182,11 +182,11 @@ besting_refused e = record { call = call_refused e; answer = λ is. absurd (no_h
 
 -- ---- all entries at once
 module _ {ws ws' : List ℕ} {h h' : LazyMinHeap} {d : ℕ} where
-  pub rebuild_call : heap_limits h.scores.capacity (length ws) ≡ Ok tt → Rebuilding ws h ws' h' → d ≡ h.entries - h.scores.len → RebuildingNow ws h ws' h' (Ok d)
-  rebuild_call t k d = discards_done t (λ is. k.parts is.parts) (λ is. rebuilt_model k is.parts) (λ is. fair_rebuilt (fair_heap is)) (same_capacity k.entered.scores) k.entered.kept (λ is. d ∙ sym (surplus_is ws h))
+  pub rebuild_call : heap_limits h.scores.capacity (length ws) ≡ Ok tt → Rebuilding ws h ws' h' d → RebuildingNow ws h ws' h' (Ok d)
+  rebuild_call t k = discards_done t (λ is. k.parts is.parts) (λ is. rebuilt_model k is.parts) (λ is. fair_rebuilt (fair_heap is)) (same_capacity k.entered.scores) k.entered.kept (λ is. k.discarded ∙ sym (surplus_is ws h))
 
-  pub renumber_call : heap_limits h.scores.capacity (length ws) ≡ Ok tt → Renumbering ws h ws' h' → d ≡ h.entries - h.scores.len → RenumberingNow ws h ws' h' (Ok d)
-  renumber_call t k d = discards_done t (λ is. k.parts is.parts) (λ is. k.model is.parts) (λ is. fair_renumbered (fair_heap is)) (same_capacity k.scores) k.kept (λ is. d ∙ sym (surplus_is ws h))
+  pub renumber_call : heap_limits h.scores.capacity (length ws) ≡ Ok tt → Renumbering ws h ws' h' d → RenumberingNow ws h ws' h' (Ok d)
+  renumber_call t k = discards_done t (λ is. k.parts is.parts) (λ is. k.model is.parts) (λ is. fair_renumbered (fair_heap is)) (same_capacity k.scores) k.kept (λ is. k.discarded ∙ sym (surplus_is ws h))
 
   -- rebuilding where there are too many
   pub maybe_call : (f : ℕ) → heap_limits_with h.scores.capacity (length ws) f ≡ Ok tt → Trimming ws h f ws' h' d → RebuildingMaybe ws h f ws' h' (Ok d)

@@ -110,14 +110,15 @@ pub record TakingKey (ws : List ℕ) (m : LinkedHashMap) (k : ℕ) (ws' : List �
   pub numbers : m' ≡ record { capacity = m.capacity; len = m'.len; refill_in = m.refill_in }
   pub answer : r ≡ held_score gone
 
--- `rebuild_within`
-pub record Rebuilding (ws : List ℕ) (h : LazyMinHeap) (ws' : List ℕ) (h' : LazyMinHeap) : Type 0 where
+-- `rebuild_within`: the live entries alone, and how many there were more
+pub record Rebuilding (ws : List ℕ) (h : LazyMinHeap) (ws' : List ℕ) (h' : LazyMinHeap) (d : ℕ) : Type 0 where
   pub entered : Entered ws h ws' h'
   pub count : Parts ws h → h'.entries ≡ h.scores.len
   pub parts : Parts ws h → Parts ws' h'
   pub entries : Parts ws h → entries_of ws' h' ≡ live_entries (held_of ws h)
+  pub discarded : d ≡ h.entries - h.scores.len
 
--- `number_within`: numbers from 0, on the scores alone
+-- `number`: numbers from 0, on the scores alone
 pub record Numbered (ws : List ℕ) (m : LinkedHashMap) (ws' : List ℕ) : Type 0 where
   pub scores : map.IsMap ws m → map.IsMap ws' m
   pub held : map.IsMap ws m → map.model_of ws' m ≡ numbered (map.model_of ws m)
@@ -125,11 +126,12 @@ pub record Numbered (ws : List ℕ) (m : LinkedHashMap) (ws' : List ℕ) : Type 
   pub past : (j : ℕ) → start m.capacity ≤ j → get_or ws' j 0 ≡ get_or ws j 0
 
 -- `renumber_within`
-pub record Renumbering (ws : List ℕ) (h : LazyMinHeap) (ws' : List ℕ) (h' : LazyMinHeap) : Type 0 where
+pub record Renumbering (ws : List ℕ) (h : LazyMinHeap) (ws' : List ℕ) (h' : LazyMinHeap) (d : ℕ) : Type 0 where
   pub scores : h'.scores ≡ h.scores
   pub factor : h'.factor ≡ h.factor
   pub parts : Parts ws h → Parts ws' h'
   pub model : Parts ws h → model_of ws' h' ≡ renumbered (model_of ws h)
+  pub discarded : d ≡ h.entries - h.scores.len
   pub kept : Kept h.scores.capacity ws ws'
 
 -- `fit_number`

@@ -1,10 +1,12 @@
 // The heap's calls. A public call tests the limits, and its private steps may count on them.
+#![tactic(auto, using(crate::proofs::Calling::no_heap, crate::proofs::Calling::limits_room))]
+
 ghost use Rattle.std.specs.Prelude.{◌≡◌, ◌-◌, ◌^◌, ◌*◌, ◌<◌, length, ltb};
 ghost use Rattle.linked_hash_map.specs.Calls.{place_of};
 ghost use Rattle.lazy_heap.specs.Words.{Room};
 ghost use Rattle.lazy_heap_model.specs.Model.{at_least_one, factor_of, len, heap_len, at_most};
 ghost use Rattle.lazy_heap.specs.Calls.{Opening, Resetting, Asking, is_empty, score_of, Removing, PeekingBest, PoppingBest, PoppingAtMost, RebuildingNow, RebuildingMaybe, RenumberingNow, Clearing, Updating, Checking};
-ghost use Rattle.lazy_heap.specs.Steps.{best_of, within, is_over, Storing, TakingKey, Living, Pushing, Popping, Peeking, CountingEntries, TakingTop, Settled, Discarding, Rebuilding, Numbered, Renumbering, Fitting, Trimming, Holding};
+ghost use Rattle.lazy_heap.specs.Steps.{best_of, within, is_over, Storing, TakingKey, Living, Pushing, Popping, Peeking, CountingEntries, TakingTop, Settled, Discarding, Rebuilding, Renumbering, Fitting, Trimming, Holding};
 ghost use Rattle.lazy_heap.specs.Walks.{CountingWithin, Sound, Agreeing};
 
 use crate::{layout, walks};
@@ -240,9 +242,7 @@ impl LazyMinHeap {
         ensures { RebuildingNow words.old self.old words.new self.new result }
     {
         limits::heap(self.scores.capacity, words.len())?;
-        let discarded = self.surplus();
-        self.rebuild_within(words);
-        Ok(discarded)
+        Ok(self.rebuild_within(words))
     }
 
     // Rebuilds if there are more entries than factor times the keys held.
@@ -257,9 +257,7 @@ impl LazyMinHeap {
         ensures { RenumberingNow words.old self.old words.new self.new result }
     {
         limits::heap(self.scores.capacity, words.len())?;
-        let discarded = self.surplus();
-        self.renumber_within(words);
-        Ok(discarded)
+        Ok(self.renumber_within(words))
     }
 
     // The next number stays.
@@ -413,17 +411,19 @@ impl LazyMinHeap {
     }
 
     // The live entries alone, pushed in sequence order: the walk is from the earliest set to the latest. It has a turn for
-    // each key held, and no more than the limit has, which numbers that are no heap's may pass.
-    fn rebuild_within(&mut self, words: &mut [u64])
+    // each key held, and no more than the limit has, which numbers that are no heap's may pass. It answers
+    // how many entries there were more.
+    fn rebuild_within(&mut self, words: &mut [u64]) -> usize
         requires { Room (length words.old) self.old.scores.capacity }
-        ensures { Rebuilding words.old self.old words.new self.new }
+        ensures { Rebuilding words.old self.old words.new self.new result }
     {
+        let discarded = self.surplus();
         let scores = self.scores;
         self.entries = 0;
         let mut at = scores.last(words);
         for _ in 0..scores.len.min(scores.capacity) {
             let Ok(Some(s)) = at else {
-                return;
+                return discarded;
             };
             let r = scores.record(words, s);
             self.push(
@@ -436,36 +436,17 @@ impl LazyMinHeap {
             );
             at = scores.previous(words, s);
         }
+        discarded
     }
 
-    // Numbers from 0 in the old sequence order, by the same walk.
-    fn number_within(scores: LinkedHashMap, words: &mut [u64])
-        ensures { Numbered words.old scores words.new }
-    {
-        let mut at = scores.last(words);
-        for number in 0..scores.len.min(scores.capacity) {
-            let Ok(Some(s)) = at else {
-                return;
-            };
-            let r = scores.record(words, s);
-            scores.set_payload(
-                words,
-                Record {
-                    second: number as u64,
-                    ..r
-                },
-            );
-            at = scores.previous(words, s);
-        }
-    }
-
-    fn renumber_within(&mut self, words: &mut [u64])
+    // The same, after numbers from 0 in the old sequence order.
+    fn renumber_within(&mut self, words: &mut [u64]) -> usize
         requires { Room (length words.old) self.old.scores.capacity }
-        ensures { Renumbering words.old self.old words.new self.new }
+        ensures { Renumbering words.old self.old words.new self.new result }
     {
-        LazyMinHeap::number_within(self.scores, words);
+        walks::number(words, self.scores);
         self.seq = self.scores.len as u64;
-        self.rebuild_within(words);
+        self.rebuild_within(words)
     }
 
     // Renumbers where the next number is the last, and answers how many entries it discarded.
@@ -476,9 +457,7 @@ impl LazyMinHeap {
         if self.seq < u64::MAX {
             return 0;
         }
-        let discarded = self.surplus();
-        self.renumber_within(words);
-        discarded
+        self.renumber_within(words)
     }
 
     // Rebuilds where there are too many entries, and answers how many it discarded.
@@ -489,9 +468,7 @@ impl LazyMinHeap {
         if !too_many(factor, self.entries, self.scores.len) {
             return 0;
         }
-        let discarded = self.surplus();
-        self.rebuild_within(words);
-        discarded
+        self.rebuild_within(words)
     }
 
     // ---- setting a score

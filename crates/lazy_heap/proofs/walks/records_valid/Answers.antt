@@ -6,9 +6,6 @@ use Rattle.lazy_heap.proofs.Downward.{descending_start, descending_lost, descend
 use Rattle.lazy_heap.proofs.walks.records_valid.Goals.{then-bound-r-via-then-bound-r, then-bound-r-via-else-bound-r+then-times-ne1}
 use Rattle.lazy_heap.proofs.walks.records_valid.Goals as goal
 
-pub loop-init : goal.loop-init
-loop-init c = descending_start _ _ c.first-at.ensures
-
 pub returns-in_default : goal.returns-in_default
 returns-in_default c = descending_lost c.loop.invariant (omega arith) (λ s q. search rules)
 
