@@ -141,6 +141,7 @@ impl FastLru {
                 self.place_evicting(words, item);
                 None
             }
+            // Neither is met in a list.
             Ok(Probe::Full) => None,
             Err(_) => None,
         }
@@ -174,6 +175,7 @@ impl FastLru {
                 Ok(Some(value))
             }
             Ok(Probe::Free(_)) => Ok(None),
+            // Neither is met in a list. (Three arms: with one pattern the proof does not see that the key is missing.)
             Ok(Probe::Full) => Ok(None),
             Err(_) => Ok(None),
         }
