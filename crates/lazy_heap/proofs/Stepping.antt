@@ -29,7 +29,6 @@ use Rattle.lazy_heap_model.specs.Model.{Heap, entry_of, at_least_one, live_entri
 use Rattle.lazy_heap.specs.Heap.{held_of, entries_of, model_of, Parts}
 use Rattle.lazy_heap.specs.Steps.{replaced_score, Storing, Pushing, Rebuilding, Numbered, Renumbering, Fitting, Trimming, Holding}
 use Rattle.lazy_heap.proofs.Parts.{part_same}
-use Rattle.lazy_heap.proofs.Settling.{entered_same}
 use Rattle.lazy_heap.proofs.Refilling.{Refilling, refilling_some, Numbering, numbering_some}
 
 abbrev of : ℕ → ℕ → ℕ → List Record → List Entry → Heap

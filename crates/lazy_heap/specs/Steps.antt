@@ -12,8 +12,7 @@ use Rattle.linked_hash_map.specs.declared.map.PutError.{PutError}
 use Rattle.linked_hash_map.specs.Model.{lookup}
 use Rattle.linked_hash_map.specs.Map.{slot_at}
 use Rattle.linked_hash_map.specs.Map as map
-use Rattle.linked_hash_map.specs.Numbers.{shrunk_map}
-use Rattle.linked_hash_map.specs.Calls.{Putting, Removing, unfit}
+use Rattle.linked_hash_map.specs.Calls.{Putting, Removing}
 use Rattle.lazy_heap.specs.declared.heap.LazyMinHeap.{LazyMinHeap}
 use Rattle.lazy_heap.specs.Words.{start, Kept}
 use Rattle.lazy_heap_model.specs.Model.{live, stale_before, from_live, surplus, live_entries, numbered, renumbered, too_many, is_full, before_push, maybe_rebuilt, pushed, removed, held_score}

@@ -277,10 +277,9 @@ impl LazyMinHeap {
     pub fn check(self, words: &[u64]) -> bool
         ensures { Checking words.now self result }
     {
-        if limits::heap(self.scores.capacity, words.len()).is_err() {
-            return false;
-        }
-        self.is_sound(words) && self.is_valid(words)
+        limits::heap(self.scores.capacity, words.len()).is_ok()
+            && self.is_sound(words)
+            && self.is_valid(words)
     }
 
     // The numbers are within their limits, and the words hold a map of scores and a binary heap of entries.
@@ -288,10 +287,9 @@ impl LazyMinHeap {
         requires { Room (length words.now) self.scores.capacity }
         ensures { Sound words.now self result }
     {
-        if self.factor == 0 || 8 < self.factor || 8 * self.scores.capacity < self.entries {
-            return false;
-        }
-        self.scores.check(words)
+        (1..=8).contains(&self.factor)
+            && self.entries <= 8 * self.scores.capacity
+            && self.scores.check(words)
             && binary_heap::is_heap(&words[layout::entries(self.scores.capacity)], self.entries)
     }
 

@@ -99,7 +99,8 @@ fn read_record(words: &[u64], slot: usize) -> Record
 #[tactic(auto, unfolding(crate::specs::Words::replaced))]
 fn replace(words: &mut [u64], n: usize, slot: usize, item: Record) -> Record
     requires { Room (length words.old) n × (slot < n) }
-    ensures { (result ≡ record_at words.old slot) × (words.new ≡ replaced words.old n slot item) }
+    ensures record { result ≡ record_at words.old slot }
+    ensures words { words.new ≡ replaced words.old n slot item }
 {
     let old = read_record(words, slot);
     write_record(words, slot, item);
@@ -128,7 +129,9 @@ fn refill(words: &mut [u64], n: usize, len: usize)
 // Whether the capacity is within the limit, and the words are enough for it.
 #[tactic(auto, using(crate::proofs::Limits::is_room))]
 fn fits(words: &[u64], capacity: usize) -> Result<(), Unfit>
-    ensures { MatchResult result (λ _. (map_fits capacity (length words.now) ≡ true) × Room (length words.now) capacity) (λ _. map_fits capacity (length words.now) ≡ false) }
+    ensures { MatchResult result
+        (λ _. (map_fits capacity (length words.now) ≡ true) × Room (length words.now) capacity)
+        (λ _. map_fits capacity (length words.now) ≡ false) }
 {
     if limits::map(capacity, words.len()) {
         Ok(())
@@ -284,36 +287,6 @@ impl LinkedHashMap {
         }
     }
 
-    // Takes the record at this cell and slot out, and answers its first word.
-    #[tactic(auto, using(crate::proofs::Places::takings))]
-    pub fn take_at(&mut self, words: &mut [u64], cell: usize, slot: usize) -> u64
-        ensures { TakingAt words.old self.old cell slot words.new self.new result }
-    {
-        if let Ok(()) = fits(words, self.capacity) {
-            if slot < self.capacity && cell < 12 * self.capacity + 192 {
-                return self.take(words, cell, slot).first;
-            }
-        }
-        0
-    }
-
-    // Puts the record at the front, in the place of its key's old one where there is one, and hands that back.
-    #[tactic(auto, using(crate::proofs::Places::puttings))]
-    pub fn put(&mut self, words: &mut [u64], item: Record) -> Result<Option<Record>, PutError>
-        ensures { Putting words.old self.old item words.new self.new result }
-    {
-        match self.seek(words, item.key)? {
-            Probe::At(_, slot) => Ok(Some(self.replace_at(words, slot, item))),
-            Probe::Free(cell) if self.len < self.capacity => {
-                self.insert_at(words, cell, item);
-                Ok(None)
-            }
-            Probe::Free(_) => Err(PutError::Full),
-            // Every cell holds a record, as in no map.
-            Probe::Full => Err(PutError::Full),
-        }
-    }
-
     // The same, on words that have room and with a cell that they have.
     fn insert(&mut self, words: &mut [u64], cell: usize, item: Record)
         requires { Room (length words.old) self.old.capacity × (cell < cell_count self.old.capacity) }
@@ -346,13 +319,17 @@ impl LinkedHashMap {
         self.refill_in = 6 * self.capacity + 96;
     }
 
-    pub fn remove(&mut self, words: &mut [u64], key: u64) -> Result<Option<Record>, Unfit>
-        ensures { Removing words.old self.old key words.new self.new result }
+    // Takes the record at this cell and slot out, and answers its first word.
+    #[tactic(auto, using(crate::proofs::Places::takings))]
+    pub fn take_at(&mut self, words: &mut [u64], cell: usize, slot: usize) -> u64
+        ensures { TakingAt words.old self.old cell slot words.new self.new result }
     {
-        match self.seek(words, key)? {
-            Probe::At(cell, slot) => Ok(Some(self.take(words, cell, slot))),
-            Probe::Free(_) | Probe::Full => Ok(None),
+        if let Ok(()) = fits(words, self.capacity) {
+            if slot < self.capacity && cell < 12 * self.capacity + 192 {
+                return self.take(words, cell, slot).first;
+            }
         }
+        0
     }
 
     // Takes the record at a slot, and its cell, out of the map, and hands it back.
@@ -368,6 +345,32 @@ impl LinkedHashMap {
         index::erase(words, n, cell);
         self.free(words, slot);
         old
+    }
+
+    // Puts the record at the front, in the place of its key's old one where there is one, and hands that back.
+    #[tactic(auto, using(crate::proofs::Places::puttings))]
+    pub fn put(&mut self, words: &mut [u64], item: Record) -> Result<Option<Record>, PutError>
+        ensures { Putting words.old self.old item words.new self.new result }
+    {
+        match self.seek(words, item.key)? {
+            Probe::At(_, slot) => Ok(Some(self.replace_at(words, slot, item))),
+            Probe::Free(cell) if self.len < self.capacity => {
+                self.insert_at(words, cell, item);
+                Ok(None)
+            }
+            Probe::Free(_) => Err(PutError::Full),
+            // Every cell holds a record, as in no map.
+            Probe::Full => Err(PutError::Full),
+        }
+    }
+
+    pub fn remove(&mut self, words: &mut [u64], key: u64) -> Result<Option<Record>, Unfit>
+        ensures { Removing words.old self.old key words.new self.new result }
+    {
+        match self.seek(words, key)? {
+            Probe::At(cell, slot) => Ok(Some(self.take(words, cell, slot))),
+            Probe::Free(_) | Probe::Full => Ok(None),
+        }
     }
 
     // Takes a key's record out and puts another in its place, at the front; where that one's key is held, nowhere. It is

@@ -2,7 +2,7 @@ use mathlib.Core.Path.{◌≡◌}
 use Rattle.std.specs.Prelude.{Some, Ok}
 use native.Mathlib.Omega.{arith}
 use Rattle.std.proofs.Common.{rules}
-use Rattle.lazy_heap.proofs.Downward.{one_if, counting_start, counting_on, counting_stop, counting_end}
+use Rattle.lazy_heap.proofs.Downward.{one_if, counting_on, counting_stop, counting_end}
 use Rattle.lazy_heap.proofs.walks.count_at_most.Goals as goal
 
 pub returns-in_default : goal.returns-in_default

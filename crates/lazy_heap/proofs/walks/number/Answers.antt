@@ -4,7 +4,7 @@ use Rattle.std.specs.Prelude.{Some, Ok}
 use native.Mathlib.Omega.{arith}
 use Rattle.std.proofs.Common.{rules}
 use Rattle.lazy_heap.proofs.Refilling.{numbering_start, numbering_on}
-use Rattle.lazy_heap.proofs.Stepping.{numbering, numbering_lost}
+use Rattle.lazy_heap.proofs.Stepping.{numbering_lost}
 use Rattle.lazy_heap.proofs.walks.number.Goals as goal
 
 pub loop-number-init : goal.loop-number-init

@@ -2,7 +2,7 @@ use mathlib.Core.Path.{◌≡◌, sym, ◌∙◌}
 use Rattle.std.specs.Prelude.{Some, Ok}
 use native.Mathlib.Omega.{arith}
 use Rattle.std.proofs.Common.{rules}
-use Rattle.lazy_heap.proofs.Downward.{descending_start, descending_lost, descending_stop, descending_unseen, descending_on, descending_end}
+use Rattle.lazy_heap.proofs.Downward.{descending_lost, descending_stop, descending_unseen, descending_on, descending_end}
 use Rattle.lazy_heap.proofs.walks.records_valid.Goals.{then-bound-r-via-then-bound-r, then-bound-r-via-else-bound-r+then-times-ne1}
 use Rattle.lazy_heap.proofs.walks.records_valid.Goals as goal
 

@@ -1,5 +1,5 @@
 use mathlib.Core.Path.{sym, ◌∙◌}
-use Rattle.lazy_heap.proofs.Calling.{handed_on, discards_refused, clear_map, clear_call}
+use Rattle.lazy_heap.proofs.Calling.{clear_map, clear_call}
 use Rattle.lazy_heap.proofs.heap.LazyMinHeap.clear.Goals as goal
 
 pub unwrap-requires : goal.unwrap-requires

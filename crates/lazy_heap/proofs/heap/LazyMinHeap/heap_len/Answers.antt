@@ -1,7 +1,7 @@
 use mathlib.Core.Path.{sym, ◌∙◌}
 use Rattle.binary_heap.proofs.Laws.{model_length}
 use Rattle.lazy_heap.specs.Words.{part}
-use Rattle.lazy_heap.proofs.Calling.{handed_on, asking_refused, asking_done}
+use Rattle.lazy_heap.proofs.Calling.{asking_done}
 use Rattle.lazy_heap.proofs.heap.LazyMinHeap.heap_len.Goals as goal
 
 pub returns : goal.returns

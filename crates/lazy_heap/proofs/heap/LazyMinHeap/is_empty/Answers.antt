@@ -2,7 +2,7 @@ use mathlib.Core.Path.{sym, ap, ◌∙◌}
 use Prim.Native.Nat.{ℕ}
 use lib.Dec.{eqb}
 use Rattle.linked_hash_map.proofs.Putting.{model_length}
-use Rattle.lazy_heap.proofs.Calling.{handed_on, asking_refused, asking_done}
+use Rattle.lazy_heap.proofs.Calling.{asking_done}
 use Rattle.lazy_heap.proofs.heap.LazyMinHeap.is_empty.Goals as goal
 
 pub returns : goal.returns

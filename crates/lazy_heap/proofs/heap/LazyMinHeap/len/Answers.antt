@@ -1,6 +1,6 @@
 use mathlib.Core.Path.{sym, ◌∙◌}
 use Rattle.linked_hash_map.proofs.Putting.{model_length}
-use Rattle.lazy_heap.proofs.Calling.{handed_on, asking_refused, asking_done}
+use Rattle.lazy_heap.proofs.Calling.{asking_done}
 use Rattle.lazy_heap.proofs.heap.LazyMinHeap.len.Goals as goal
 
 pub returns : goal.returns

@@ -1,5 +1,5 @@
 use mathlib.Core.Path.{sym, ◌∙◌}
-use Rattle.lazy_heap.proofs.Calling.{handed_on, with_room_lem, discards_refused, maybe_call}
+use Rattle.lazy_heap.proofs.Calling.{with_room_lem, maybe_call}
 use Rattle.lazy_heap.proofs.heap.LazyMinHeap.maybe_rebuild.Goals as goal
 
 pub fit_entries-requires : goal.fit_entries-requires

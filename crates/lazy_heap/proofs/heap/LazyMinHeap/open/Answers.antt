@@ -1,5 +1,5 @@
 use mathlib.Core.Path.{sym, ◌∙◌}
-use Rattle.lazy_heap.proofs.Calling.{handed_on, open_refused, open_map, open_done}
+use Rattle.lazy_heap.proofs.Calling.{open_map, open_done}
 use Rattle.lazy_heap.proofs.heap.LazyMinHeap.open.Goals as goal
 
 pub unwrap-scores-requires : goal.unwrap-scores-requires

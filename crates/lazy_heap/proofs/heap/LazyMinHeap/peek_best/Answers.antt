@@ -1,6 +1,4 @@
 use mathlib.Core.Path.{sym, ◌∙◌}
-use Rattle.lazy_heap.proofs.Calling.{handed_on, limits_room, besting_refused}
-use Rattle.lazy_heap.proofs.Settling.{room_entered}
 use Rattle.lazy_heap.proofs.Best.{peeking_best}
 use Rattle.lazy_heap.proofs.heap.LazyMinHeap.peek_best.Goals as goal
 

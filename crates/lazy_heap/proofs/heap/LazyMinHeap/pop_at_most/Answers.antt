@@ -1,6 +1,4 @@
 use mathlib.Core.Path.{sym, ◌∙◌}
-use Rattle.lazy_heap.proofs.Calling.{handed_on, limits_room, besting_refused}
-use Rattle.lazy_heap.proofs.Settling.{room_entered}
 use Rattle.lazy_heap.proofs.Best.{popping_within}
 use Rattle.lazy_heap.proofs.heap.LazyMinHeap.pop_at_most.Goals as goal
 

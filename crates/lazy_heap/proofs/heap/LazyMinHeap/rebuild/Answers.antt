@@ -1,5 +1,5 @@
 use mathlib.Core.Path.{sym, ◌∙◌}
-use Rattle.lazy_heap.proofs.Calling.{handed_on, limits_room, discards_refused, rebuild_call}
+use Rattle.lazy_heap.proofs.Calling.{rebuild_call}
 use Rattle.lazy_heap.proofs.heap.LazyMinHeap.rebuild.Goals as goal
 
 pub returns : goal.returns

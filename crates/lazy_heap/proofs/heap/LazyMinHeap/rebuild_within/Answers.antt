@@ -3,7 +3,6 @@ use Prim.Native.Nat.{◌-◌}
 use Rattle.std.proofs.Common.{rules}
 use Rattle.std.specs.Prelude.{Some, Ok}
 use native.Mathlib.Omega.{arith}
-use Rattle.lazy_heap.proofs.Settling.{room_entered}
 use Rattle.lazy_heap.proofs.Refilling.{refilling_start, refilling_on}
 use Rattle.lazy_heap.proofs.Stepping.{rebuilding, rebuilding_lost}
 use Rattle.lazy_heap.proofs.heap.LazyMinHeap.rebuild_within.Goals as goal

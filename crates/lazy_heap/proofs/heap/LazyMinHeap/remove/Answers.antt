@@ -1,5 +1,5 @@
 use mathlib.Core.Path.{sym, ◌∙◌}
-use Rattle.lazy_heap.proofs.Calling.{handed_on, limits_room, removing, removing_refused}
+use Rattle.lazy_heap.proofs.Calling.{removing}
 use Rattle.lazy_heap.proofs.heap.LazyMinHeap.remove.Goals as goal
 
 pub returns : goal.returns

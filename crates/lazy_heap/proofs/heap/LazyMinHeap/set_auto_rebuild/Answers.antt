@@ -1,5 +1,5 @@
 use mathlib.Core.Path.{sym, ◌∙◌}
-use Rattle.lazy_heap.proofs.Calling.{handed_on, call_refused, factor_call}
+use Rattle.lazy_heap.proofs.Calling.{factor_call}
 use Rattle.lazy_heap.proofs.heap.LazyMinHeap.set_auto_rebuild.Goals as goal
 
 pub returns : goal.returns

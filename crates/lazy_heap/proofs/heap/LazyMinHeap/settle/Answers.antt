@@ -1,4 +1,4 @@
-use Rattle.lazy_heap.proofs.Settling.{settling_start, settling_on, settled_top, settled_empty, room_entered}
+use Rattle.lazy_heap.proofs.Settling.{settling_on, settled_top, settled_empty}
 use native.Mathlib.Omega.{arith}
 use Rattle.lazy_heap.proofs.heap.LazyMinHeap.settle.Goals as goal
 

@@ -1,6 +1,6 @@
 use mathlib.Core.Path.{sym, ◌∙◌}
 use Rattle.lazy_heap.proofs.Calling.{place_some}
-use Rattle.lazy_heap.proofs.Updating.{over_full, place_kept, updating, updating_full}
+use Rattle.lazy_heap.proofs.Updating.{over_full, updating, updating_full}
 use Rattle.lazy_heap.proofs.heap.LazyMinHeap.update_within.Goals as goal
 
 pub unwrap-place-requires : goal.unwrap-place-requires
