@@ -2,8 +2,9 @@
 use mathlib.Core.Path.{◌≡◌, refl, sym, ap, ◌∙◌}
 use mathlib.Core.Bool.{Bool, true, false, cond}
 use mathlib.Core.List.{List, [], ◌∷◌, ◌++◌}
-use Prim.Native.Nat.{ℕ, zero, suc, ◌+◌, ◌-◌, ◌<◌, ◌≤◌}
+use Prim.Native.Nat.{ℕ, zero, suc, ◌+◌, ◌-◌, ◌*◌, ◌^◌, ◌<◌, ◌≤◌}
 use native.Mathlib.Omega.{arith}
+use lib.Dec.{lit<}
 use lib.ListN.{length, set, take, drop, replicate, length-set}
 use borrow.Rule.Slice.PartMut.{put_mid}
 use Rattle.std.proofs.lemmas.List.{append_assoc, take-append-drop, drop-drop, take_more_set, drop-set-lt, length-take-le, length-drop}
@@ -11,7 +12,10 @@ use borrow.Author.Tests.{lt-ltb, le-ltb}
 use Rattle.std.specs.Prelude.{Some, None}
 use Rattle.std.specs.Bool.{then_some}
 use Rattle.rings.specs.Ring.{next, attached}
-use Rattle.cells.specs.Cells.{zeroed}
+use Rattle.cells.specs.Cells.{weight, zeroed}
+use Rattle.cells.proofs.Packing.{digit_le, put_lt}
+use Rattle.cells.proofs.Held.{count_none, count_one, count_free, count_tomb}
+use Rattle.rings.proofs.Walks.{walks_on, walks_past, walks_one_way, walks_end}
 use Rattle.cells.specs.declared.Probe.{Probe}
 use Rattle.cells.specs.declared.Probe.TheVariants as probed
 use Rattle.cells.specs.Probe.{taken_by, entered}
@@ -48,6 +52,10 @@ zeroed_part b g f ws ys q h e =
     let n : length (take f (drop b ws)) ≡ f = length-take-le f (drop b ws) (omega (arith, length-drop b ws)) in
     let all : ys ≡ replicate f 0 = e ∙ ap (λ (x : ℕ). replicate (length (take x (drop b ws))) 0) q ∙ ap (λ (x : ℕ). replicate x 0) n in
     rw (q, all) (zeroed_mid b f ws h)
+
+-- a cell's value, where it stands in its word, fits a word
+pub digit_fits : (p v : ℕ) → v < 65536 → v * weight p < 2 ^ 64
+digit_fits p v h = let l = put_lt p 0 v (lit< tt) h in omega arith
 
 pub then_some_cond : (b : Bool) (x : ℕ) → then_some b x ≡ cond b (Some x) None
 then_some_cond true x = refl
@@ -99,3 +107,16 @@ module _ (ws : List ℕ) (n : ℕ) where
     pub finds_on : (g : ℕ) → k ≡ suc g → x < n → finds_of ws n x ≡ true → finds_all ws n k x ≡ finds_all ws n g (next ws x)
     unfolding finds_all
     finds_on g e l q = rw (e, lt-ltb x n l, q)
+
+-- the steps of each loop, and its end
+pub ruleset filling = (filled_on, filled_end)
+
+pub ruleset entering = (entered_on, entered_past, entered_end)
+
+pub ruleset finding = (finds_on, finds_past, finds_lost, finds_end)
+
+pub ruleset walking = (walks_on, walks_past, walks_one_way, walks_end)
+
+pub ruleset counting = (count_none, count_one, count_free, count_tomb)
+
+pub ruleset fitting = (digit_le, put_lt, digit_fits)

@@ -10,6 +10,7 @@ use crate::index;
 use cells::Probe;
 
 // From node s by the next links come k records, each linked both ways, and then s again.
+#[tactic(auto, using(crate::proofs::Steps::walking))]
 pub fn walks(words: &[u64], n: usize, s: usize, k: usize) -> bool
     requires { Room (length words.now) n × (s < n + 2) }
     ensures { result ≡ walksOf words.now n s s k }
@@ -30,6 +31,7 @@ pub fn walks(words: &[u64], n: usize, s: usize, k: usize) -> bool
 }
 
 // The probe of each live record's key ends at that record.
+#[tactic(auto, using(crate::proofs::Steps::finding))]
 pub fn finds_all(words: &[u64], n: usize, len: usize) -> bool
     requires { Room (length words.now) n }
     ensures { result ≡ finds_all words.now n len (next words.now n) }
@@ -48,6 +50,7 @@ pub fn finds_all(words: &[u64], n: usize, len: usize) -> bool
     true
 }
 
+#[tactic(auto, unfolding(crate::specs::Checks::finds_of), using(crate::proofs::Steps::not_ended, crate::proofs::Probed::none_at))]
 fn finds(words: &[u64], n: usize, slot: usize) -> bool
     requires { Room (length words.now) n × (slot < n) }
     ensures { result ≡ finds_of words.now n slot }
@@ -59,6 +62,7 @@ fn finds(words: &[u64], n: usize, slot: usize) -> bool
 }
 
 // How many cells hold a record.
+#[tactic(auto, using(crate::proofs::Steps::counting))]
 pub fn held(words: &[u64], n: usize) -> usize
     requires { Room (length words.now) n }
     ensures { result ≡ length (held_in words.now n (cell_count n)) }

@@ -1,4 +1,5 @@
-// The hash cells.
+// The hash cells. The words and n go side by side: a struct that held both would have `Room` for its invariant, but each function
+// that writes would then ensure that the reference and n stay, two clauses in the place of one.
 ghost use Rattle.std.specs.Prelude.{◌≡◌, ◌+◌, ◌*◌, ◌<◌, ◌≤◌, length};
 ghost use Rattle.cells.specs.Cells.{cells_from, cell_words, cell_count, weight, cell_at, set_cell, cell_after, home_of, erased, zeroed};
 ghost use Rattle.cells.specs.Probe.{entered};
@@ -7,9 +8,11 @@ ghost use Rattle.linked_hash_map.specs.Words.{Room};
 
 use cells::Probe;
 
+// Of a record that is gone. A cell is a number of 16 bits, since it stands in the words that are lent.
 const TOMBSTONE: u64 = 65535;
 
 // The cell at which a key's probes start: its hash scaled to the number of cells, with no division.
+#[tactic(auto, unfolding(cells::specs::Cells::home_of))]
 fn home(n: usize, key: u64) -> usize
     requires { n ≤ 4096 }
     ensures { result ≡ home_of n key }
@@ -22,6 +25,7 @@ fn home(n: usize, key: u64) -> usize
 }
 
 // The cell after p, round the end.
+#[tactic(auto, unfolding(cells::specs::Cells::cell_after))]
 fn after(n: usize, p: usize) -> usize
     requires { (n ≤ 4096) × (p < cell_count n) }
     ensures { result ≡ cell_after n p }
@@ -30,6 +34,7 @@ fn after(n: usize, p: usize) -> usize
 }
 
 // Cell p.
+#[tactic(auto, unfolding(cells::specs::Cells::weight, cells::specs::Cells::cell_at))]
 pub fn cell(words: &[u64], n: usize, p: usize) -> u64
     requires { Room (length words.now) n × (p < cell_count n) }
     ensures { result ≡ cell_at words.now n p }
@@ -39,6 +44,7 @@ pub fn cell(words: &[u64], n: usize, p: usize) -> u64
 }
 
 // What the cell's lowest bit counts in its word.
+#[tactic(auto, unfolding(cells::specs::Cells::weight))]
 fn weight_of(p: usize) -> u64
     ensures { result ≡ weight p }
 {
@@ -46,6 +52,7 @@ fn weight_of(p: usize) -> u64
 }
 
 // Writes v into cell p.
+#[tactic(auto, unfolding(cells::specs::Cells::cell_at, cells::specs::Cells::set_cell), using(crate::proofs::Steps::fitting))]
 pub fn set_cell(words: &mut [u64], n: usize, p: usize, v: u64)
     requires { Room (length words.old) n × (p < cell_count n) × (v < 65536) }
     ensures { words.new ≡ set_cell words.old n p v }
@@ -64,14 +71,11 @@ pub fn probe(words: &[u64], n: usize, key: u64) -> Probe
 {
     let count = 12 * n + 192;
     let mut p = home(n, key);
-    let mut free = count;
+    let mut free = None;
     for _ in 0..count {
         let v = cell(words, n, p);
         if v == 0 {
-            if free < count {
-                return Probe::Free(free);
-            }
-            return Probe::Free(p);
+            return Probe::Free(free.unwrap_or(p));
         }
         if v <= n as u64 {
             let s = (v - 1) as usize;
@@ -79,20 +83,18 @@ pub fn probe(words: &[u64], n: usize, key: u64) -> Probe
                 return Probe::At(p, s);
             }
         } else {
-            if count <= free {
-                free = p;
-            }
+            free = free.or(Some(p));
         }
         p = after(n, p);
     }
-    if free < count {
-        Probe::Free(free)
-    } else {
-        Probe::Full
+    match free {
+        Some(p) => Probe::Free(p),
+        None => Probe::Full,
     }
 }
 
 // Enters a record in the cell that its key's probe offers.
+#[tactic(auto, unfolding(cells::specs::Probe::entered), using(crate::proofs::Steps::not_taken, cells::proofs::Probing::free_vacant))]
 pub fn enter(words: &mut [u64], n: usize, slot: usize)
     requires { Room (length words.old) n × (slot < n) }
     ensures { words.new ≡ entered words.old n slot }
@@ -103,6 +105,7 @@ pub fn enter(words: &mut [u64], n: usize, slot: usize)
 }
 
 // Empties cell p. Where no probe goes on to the cell after it, it is as if never used.
+#[tactic(auto, unfolding(cells::specs::Cells::erased), using(cells::proofs::Probing::after_lt))]
 pub fn erase(words: &mut [u64], n: usize, p: usize)
     requires { Room (length words.old) n × (p < cell_count n) }
     ensures { words.new ≡ erased words.old n p }
@@ -113,6 +116,7 @@ pub fn erase(words: &mut [u64], n: usize, p: usize)
 }
 
 // Every cell as never used.
+#[tactic(auto, using(crate::proofs::Steps::zeroed_part))]
 pub fn clear_cells(words: &mut [u64], n: usize)
     requires { Room (length words.old) n }
     ensures { words.new ≡ zeroed words.old (cells_from n) (cell_words n) }
