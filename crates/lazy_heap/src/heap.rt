@@ -306,7 +306,7 @@ impl LazyMinHeap {
             && binary_heap::is_heap(&words[layout::entries(self.scores.capacity)], self.entries)
     }
 
-    // Scores and entries go together.
+    // Scores and entries go together. (The tally is as large as any heap needs, since the memory is fixed.)
     fn is_valid(self, words: &[u64]) -> bool
         requires { Room (length words.now) self.scores.capacity }
         ensures { Agreeing words.now self result }

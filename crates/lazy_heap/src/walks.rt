@@ -1,5 +1,6 @@
 // Walks over the held keys and over the entries. A walk over the keys has a turn for each, and no more than the limit has,
-// which numbers that are no map's may pass.
+// which numbers that are no map's may pass. (Two of the walks write the words between their steps, so that no iterator can
+// hold them; for the two others one would be longer than they are.)
 ghost use Rattle.std.specs.Prelude.{◌≡◌, length, get_or};
 ghost use Rattle.lazy_heap.specs.Words.{Room};
 ghost use Rattle.lazy_heap.specs.Steps.{Numbered};
