@@ -12,7 +12,6 @@ use Rattle.expiring.specs.declared.answers.Reply.{Reply}
 use Rattle.expiring.specs.Book.{heap_of, model_of}
 use Rattle.expiring.specs.Calls.{HeapLength, DeadlinesHeld}
 use Rattle.text.specs.Text.{fill}
-use Rattle.text.specs.Writing.{Puts}
 use Rattle.text.proofs.Laws.{fill_size}
 use Rattle.session.specs.declared.answer.Counts.{Counts}
 use Rattle.session.specs.Answers.{line_format, line_numbers, line_of, Prints, head_of, tail_of}
@@ -58,8 +57,8 @@ line_parts answer.Done c = refl
 line_parts (answer.Refused why) c = simp append_assoc
 
 -- an answer's head, where it is known which answer it is
-pub head_of_lem : {out out' : List ℕ} {n : ℕ} {a b : Answer} → a ≡ b → Puts out 0 (head_of b) out' n → Puts out 0 (head_of a) out' n
-head_of_lem e p = rw e p
+pub head_is : {a b : Answer} {l : List ℕ} → a ≡ b → l ≡ head_of b → l ≡ head_of a
+head_is e p = rw e p
 
 module _ {out out' : List ℕ} (a : Answer) (c : Counts) {n : ℕ} (enough : room ≤ length out) (p : Prints out a c out' n) where
   pub printed : Written out (line_of a c) out' n
