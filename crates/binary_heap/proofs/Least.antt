@@ -1,10 +1,10 @@
 -- The least entry: there is at most one, and a sorted list starts with it.
 use mathlib.Core.Path.{◌≡◌, refl, ap}
+use Rattle.std.specs.Prelude.{Some}
 use mathlib.Core.List.{List, [], ◌∷◌}
 use mathlib.Core.List.Memᴰ.{head}
 use mathlib.Core.List.Memᴰ.{not-nil}
 use Rattle.binary_heap.specs.declared.entries.Entry.{Entry}
-use Rattle.binary_heap.specs.declared.heap.Top.TheVariants as top
 use Rattle.binary_heap.specs.Order.{sort}
 use Rattle.binary_heap.specs.Heap.{first}
 use Rattle.binary_heap.specs.Least.{Least}
@@ -20,9 +20,9 @@ sort_least {e} {l} {es} q = record {
   greatest = λ x m. head_le {l = l} (rw q at (sort_sorted es)) (rw q at (mem_sort x es m));
 }
 
-pub first_least : {e : Entry} {es : List Entry} → Least e es → first (sort es) ≡ top.Entry e
+pub first_least : {e : Entry} {es : List Entry} → Least e es → first (sort es) ≡ Some e
 first_least {e} {es} x = go (sort es) refl
   where
-    go : (l : List Entry) → sort es ≡ l → first l ≡ top.Entry e
+    go : (l : List Entry) → sort es ≡ l → first l ≡ Some e
     go [] q = absurd (not-nil (rw q at (mem_sort e es x.member)))
-    go (y ∷ l) q = ap top.Entry (least_unique (sort_least q) x)
+    go (y ∷ l) q = ap Some (least_unique (sort_least q) x)

@@ -1,50 +1,48 @@
 -- `pop`: the last entry takes the root's place, where only it may be after its children, and sinks. What is left is the
 -- entries without the root, so that the root in front of them, sorted, is all of them, sorted.
 use mathlib.Core.Path.{◌≡◌, refl, sym, ap, ◌∙◌}
-use mathlib.Core.Bool.{true, false, true≢false}
+use mathlib.Core.Bool.{true, true≢false}
 use mathlib.Core.List.{List, ◌∷◌}
-use Prim.Native.Nat.{ℕ, zero, suc, ◌+◌, ◌-◌, ◌<◌}
+use Prim.Native.Nat.{ℕ, zero, suc, ◌+◌, ◌-◌}
 use native.Mathlib.Omega.{arith}
 use native.Mathlib.Decide.{ℕ_discrete}
 use lib.ListN.{length}
+use Rattle.std.specs.Prelude.{None, Some}
 use Rattle.binary_heap.specs.declared.entries.Entry.{Entry}
-use Rattle.binary_heap.specs.declared.heap.Top.TheVariants as top
 use Rattle.binary_heap.specs.Order.{sort, is, count}
 use Rattle.binary_heap.specs.Entries.{entry_at, entries_of, put_at}
-use Rattle.binary_heap.specs.Heap.{fit, Room, parent, Ordered, model_of}
+use Rattle.binary_heap.specs.Heap.{fit, Room, parent, Ordered, IsHeap, model_of, rest}
 use Rattle.binary_heap.specs.Sifts.{Sinks}
-use Rattle.binary_heap.specs.Calls.{Popping}
+use Rattle.binary_heap.specs.Calls.{Peeking, Popping}
 use Rattle.binary_heap.proofs.Order.{le_at}
 use Rattle.binary_heap.proofs.Counts.{mem_count, count_mem}
 use Rattle.binary_heap.proofs.Sorting.{sort_same, sort_mem, insert_least}
 use Rattle.binary_heap.proofs.Words.{put_length, put_same, put_kept, put_other}
 use Rattle.binary_heap.proofs.Places.{count_last, count_put}
-use Rattle.binary_heap.proofs.Limits.{is_room}
+use Rattle.binary_heap.proofs.Limits.{is_room, room_fits}
 use Rattle.binary_heap.proofs.Sinking.{OrderedAbove, Sunk, sunk}
-use Rattle.binary_heap.proofs.Root.{root_least, unfit_heap}
+use Rattle.binary_heap.proofs.Root.{Rooted, root_least}
 use Rattle.binary_heap.proofs.Pushing.{kept_same}
 
-module _ (ws : List ℕ) where
-  pub popping_refused : {n : ℕ} → fit n (length ws) ≡ false → Popping ws n ws (record { len = n; answer = top.Nothing })
-  popping_refused {n} f = record {
-    refused = λ _. (refl, refl);
-    shorter = λ t. absurd (true≢false (sym t ∙ f));
-    answer = λ h. absurd (unfit_heap f h);
-    heap = λ h. h;
-    model = λ h. absurd (unfit_heap f h);
-    kept = kept_same n ws;
-  }
+-- none was told: the limits are not met, or there is none
+pub popping_none : {ws : List ℕ} {n : ℕ} → Peeking ws n None → Popping ws n ws n None
+unfolding model_of entries_of sort
+popping_none {ws} {n} p = record {
+  refused = λ _. (refl, refl, refl);
+  shorter = λ t. go t n refl;
+  answer = λ h. p.answer h;
+  heap = λ h. h;
+  model = λ h. go2 h n refl;
+  kept = kept_same n ws;
+}
+  where
+    go : fit n (length ws) ≡ true → (m : ℕ) → n ≡ m → n ≡ n - 1
+    go t zero q = omega arith
+    go t (suc m) q = cc (p.root t (omega arith))
 
-  pub popping_none : {n : ℕ} → n ≡ 0 → Popping ws n ws (record { len = n; answer = top.Nothing })
-  unfolding model_of entries_of sort
-  popping_none {n} q = record {
-    refused = λ _. (refl, refl);
-    shorter = λ t. omega arith;
-    answer = λ h. rw q;
-    heap = λ h. h;
-    model = λ h. rw q;
-    kept = kept_same n ws;
-  }
+    go2 : IsHeap ws n → (m : ℕ) → n ≡ m → model_of ws n ≡ rest (model_of ws n)
+    go2 h zero q = rw q
+    go2 h (suc m) q = cc (p.root (room_fits h.room) (omega arith))
 
 -- m is the number of entries that are left
 module _ (ws ws' : List ℕ) (m : ℕ) (fits : fit (suc m) (length ws) ≡ true) (s : Sinks (put_at ws 0 (entry_at ws m)) m 0 ws') where
@@ -90,7 +88,7 @@ module _ (ws ws' : List ℕ) (m : ℕ) (fits : fit (suc m) (length ws) ≡ true)
       ∙ insert_least (entry_at ws 0) (sort (entries_of ws' m))
       (λ e i. (root_least ws (suc m) o (omega arith)).greatest e (count_mem e (entries_of ws (suc m)) (omega (arith, one_less e, mem_count e (entries_of ws' m) (sort_mem e (entries_of ws' m) i)))))
 
-  popped : Popping ws (suc m) ws' (record { len = m; answer = top.Entry (entry_at ws 0) })
+  popped : Popping ws (suc m) ws' m (Some (entry_at ws 0))
   popped = record {
     refused = λ f. absurd (true≢false (sym fits ∙ f));
     shorter = λ _. omega arith;
@@ -106,8 +104,8 @@ module _ (ws ws' : List ℕ) (m : ℕ) (fits : fit (suc m) (length ws) ≡ true)
     };
   }
 
-pub popping_root : (n : ℕ) {ws us ws' : List ℕ} {r e : Entry} → 0 < n → fit n (length ws) ≡ true → r ≡ entry_at ws 0 → e ≡ entry_at ws (n - 1) → us ≡ put_at ws 0 e
-    → Sinks us (n - 1) 0 ws' → Popping ws n ws' (record { len = n - 1; answer = top.Entry r })
-popping_root zero pos f p q u s = absurd (omega arith)
-popping_root (suc m) {ws} {us} {ws'} pos f p q u s =
-    let d : suc m - 1 ≡ m = omega arith in rw (p, d) (popped ws ws' m f (rw (u, q, d) at s))
+pub popping_root : (n : ℕ) {ws us ws' : List ℕ} {r e : Entry} → Rooted ws n r → e ≡ entry_at ws (n - 1) → us ≡ put_at ws 0 e
+    → Sinks us (n - 1) 0 ws' → Popping ws n ws' (n - 1) (Some r)
+popping_root zero p q u s = let l = p.some in absurd (omega arith)
+popping_root (suc m) {ws} {us} {ws'} p q u s =
+    let d : suc m - 1 ≡ m = omega arith in rw (p.is, d) (popped ws ws' m p.fits (rw (u, q, d) at s))

@@ -22,9 +22,9 @@ use Rattle.binary_heap.proofs.Rising.{OrderedBut, Risen, risen}
 pub kept_same : (n : ℕ) (ws : List ℕ) → Kept n ws ws
 kept_same n ws = record { size = refl; past = λ w h. refl }
 
-pub pushing_refused : (ws : List ℕ) (n : ℕ) (e : Entry) → fit (n + 1) (length ws) ≡ false → Pushing ws n e ws (record { len = n; is_done = false })
+pub pushing_refused : (ws : List ℕ) (n : ℕ) (e : Entry) → fit (n + 1) (length ws) ≡ false → Pushing ws n e ws n false
 pushing_refused ws n e f = record {
-  refused = λ _. (refl, refl);
+  refused = λ _. (refl, refl, refl);
   done = λ t. absurd (true≢false (sym t ∙ f));
   heap = λ t. absurd (true≢false (sym t ∙ f));
   model = λ t. absurd (true≢false (sym t ∙ f));
@@ -57,7 +57,7 @@ module _ (ws ws' : List ℕ) (n : ℕ) (e : Entry) (fits : fit (n + 1) (length w
         ap (count x) (entries_same ws (put_at ws n e) n (λ k l. put_kept ws n e k (omega arith))),
       ))
 
-  pushed : Pushing ws n e ws' (record { len = n + 1; is_done = true })
+  pushed : Pushing ws n e ws' (n + 1) true
   unfolding model_of sort
   pushed = record {
     refused = λ f. absurd (true≢false (sym fits ∙ f));
@@ -71,5 +71,5 @@ module _ (ws ws' : List ℕ) (n : ℕ) (e : Entry) (fits : fit (n + 1) (length w
   }
 
 pub pushing_done : {ws us ws' : List ℕ} {n : ℕ} {e : Entry} → fit (n + 1) (length ws) ≡ true → us ≡ put_at ws n e
-    → Rises us n ws' → Pushing ws n e ws' (record { len = n + 1; is_done = true })
+    → Rises us n ws' → Pushing ws n e ws' (n + 1) true
 pushing_done {ws} {us} {ws'} {n} {e} f q r = pushed ws ws' n e f (rw q at r)

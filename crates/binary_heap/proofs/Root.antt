@@ -1,21 +1,22 @@
 -- The root of a heap is its least entry: no entry's parent is after it, nor is the parent's, up to the root.
 use mathlib.Core.Path.{◌≡◌, refl, sym, ap, ◌∙◌}
-use mathlib.Core.Bool.{true, false, true≢false}
+use mathlib.Core.Bool.{Bool, true, false, true≢false}
 use mathlib.Core.List.{List}
 use Prim.Native.Nat.{ℕ, zero, suc, ◌<◌, ◌≤◌}
 use native.Mathlib.Omega.{arith}
 use native.Mathlib.Decide.{ℕ_discrete}
 use lib.ListN.{length}
-use Rattle.binary_heap.specs.declared.heap.Top.TheVariants as top
+use Rattle.std.specs.Prelude.{None, Some}
+use Rattle.binary_heap.specs.declared.entries.Entry.{Entry}
 use Rattle.binary_heap.specs.Order.{le, sort}
 use Rattle.binary_heap.specs.Entries.{entry_at, entries_of}
-use Rattle.binary_heap.specs.Heap.{fit, parent, Ordered, IsHeap, model_of}
+use Rattle.binary_heap.specs.Heap.{fit, Room, parent, Ordered, IsHeap, model_of}
 use Rattle.binary_heap.specs.Least.{Least}
 use Rattle.binary_heap.specs.Calls.{Peeking}
 use Rattle.binary_heap.proofs.Order.{le_at, le_same, le_then}
 use Rattle.binary_heap.proofs.Counts.{mem_count, count_mem}
 use Rattle.binary_heap.proofs.Places.{count_place, place_count}
-use Rattle.binary_heap.proofs.Limits.{room_fits}
+use Rattle.binary_heap.proofs.Limits.{is_room, room_fits}
 use Rattle.binary_heap.proofs.Least.{first_least}
 
 module _ (ws : List ℕ) (n : ℕ) (o : Ordered ws n) where
@@ -40,16 +41,40 @@ pub unfit_heap : {ws : List ℕ} {n : ℕ} → fit n (length ws) ≡ false → I
 unfit_heap f h = true≢false (sym (room_fits h.room) ∙ f)
 
 module _ (ws : List ℕ) where
-  pub peeking_refused : {n : ℕ} → fit n (length ws) ≡ false → Peeking ws n top.Nothing
-  peeking_refused f = record { refused = λ _. refl; answer = λ h. absurd (unfit_heap f h) }
+  pub peeking_refused : {n : ℕ} → fit n (length ws) ≡ false → Peeking ws n None
+  peeking_refused f = record {
+    refused = λ _. refl;
+    none = λ _. refl;
+    root = λ t _. absurd (true≢false (sym t ∙ f));
+    answer = λ h. absurd (unfit_heap f h);
+  }
 
-  pub peeking_none : {n : ℕ} → n ≡ 0 → Peeking ws n top.Nothing
+  pub peeking_none : {n : ℕ} → n ≡ 0 → Peeking ws n None
   unfolding model_of entries_of sort
-  peeking_none q = record { refused = λ _. refl; answer = λ h. rw q }
+  peeking_none q = record { refused = λ _. refl; none = λ _. refl; root = λ _ p. absurd (omega arith); answer = λ h. rw q }
 
-  pub peeking_root : {n : ℕ} → fit n (length ws) ≡ true → 0 < n → Peeking ws n (top.Entry (entry_at ws 0))
+  pub peeking_root : {n : ℕ} → fit n (length ws) ≡ true → 0 < n → Peeking ws n (Some (entry_at ws 0))
   unfolding model_of
   peeking_root {n} t pos = record {
     refused = λ f. absurd (true≢false (sym t ∙ f));
+    none = λ q. absurd (omega arith);
+    root = λ _ _. refl;
     answer = λ h. sym (first_least (root_least ws n h.ordered pos));
   }
+
+pub ruleset peeking = (is_room, peeking_refused, peeking_none, peeking_root)
+
+-- a root was told: there is one
+pub record Rooted (ws : List ℕ) (n : ℕ) (e : Entry) : Type 0 where
+  pub fits : fit n (length ws) ≡ true
+  pub room : Room (length ws) n
+  pub some : 0 < n
+  pub is : e ≡ entry_at ws 0
+
+pub peeked_root : {ws : List ℕ} {n : ℕ} {e : Entry} → Peeking ws n (Some e) → Rooted ws n e
+peeked_root {ws} {n} {e} p = go (fit n (length ws)) refl n refl
+  where
+    go : (b : Bool) → fit n (length ws) ≡ b → (m : ℕ) → n ≡ m → Rooted ws n e
+    go false f m q = cc (p.refused f)
+    go true t zero q = cc (p.none q)
+    go true t (suc m) q = let pos : 0 < n = omega arith in record { fits = t; room = is_room n (length ws) t; some = pos; is = cc (p.root t pos) }

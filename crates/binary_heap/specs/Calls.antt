@@ -1,10 +1,6 @@
 -- What each call promises: on any words at all, and on a heap.
-use Rattle.std.specs.Prelude.{◌≡◌, Bool, true, false, List, ℕ, ◌+◌, ◌-◌, ◌*◌, ◌<◌, ◌≤◌, length, get_or}
+use Rattle.std.specs.Prelude.{◌≡◌, Bool, true, false, List, ℕ, ◌+◌, ◌-◌, ◌*◌, ◌<◌, ◌≤◌, length, get_or, Option, None, Some}
 use Rattle.binary_heap.specs.declared.entries.Entry.{Entry}
-use Rattle.binary_heap.specs.declared.heap.Top.{Top}
-use Rattle.binary_heap.specs.declared.heap.Top.TheVariants as top
-use Rattle.binary_heap.specs.declared.heap.Pushed.{Pushed}
-use Rattle.binary_heap.specs.declared.heap.Popped.{Popped}
 use Rattle.binary_heap.specs.Order.{insert, at_most}
 use Rattle.binary_heap.specs.Entries.{entry_at}
 use Rattle.binary_heap.specs.Heap.{fit, IsHeap, model_of, first, rest}
@@ -15,25 +11,27 @@ pub record Kept (n : ℕ) (ws ws' : List ℕ) : Type 0 where
   pub past : (w : ℕ) → 3 * n ≤ w → get_or ws' w 0 ≡ get_or ws w 0
 
 -- `push`: the entry at its place in the order
-pub record Pushing (ws : List ℕ) (n : ℕ) (e : Entry) (ws' : List ℕ) (r : Pushed) : Type 0 where
-  pub refused : fit (n + 1) (length ws) ≡ false → (r ≡ record { len = n; is_done = false }) × (ws' ≡ ws)
-  pub done : fit (n + 1) (length ws) ≡ true → (r.is_done ≡ true) × (r.len ≡ n + 1)
+pub record Pushing (ws : List ℕ) (n : ℕ) (e : Entry) (ws' : List ℕ) (n' : ℕ) (r : Bool) : Type 0 where
+  pub refused : fit (n + 1) (length ws) ≡ false → (r ≡ false) × (n' ≡ n) × (ws' ≡ ws)
+  pub done : fit (n + 1) (length ws) ≡ true → (r ≡ true) × (n' ≡ n + 1)
   pub heap : fit (n + 1) (length ws) ≡ true → IsHeap ws n → IsHeap ws' (n + 1)
   pub model : fit (n + 1) (length ws) ≡ true → model_of ws' (n + 1) ≡ insert e (model_of ws n)
   pub kept : Kept (n + 1) ws ws'
 
 -- `peek`: the least entry
-pub record Peeking (ws : List ℕ) (n : ℕ) (r : Top) : Type 0 where
-  pub refused : fit n (length ws) ≡ false → r ≡ top.Nothing
+pub record Peeking (ws : List ℕ) (n : ℕ) (r : Option Entry) : Type 0 where
+  pub refused : fit n (length ws) ≡ false → r ≡ None
+  pub none : n ≡ 0 → r ≡ None
+  pub root : fit n (length ws) ≡ true → 0 < n → r ≡ Some (entry_at ws 0)
   pub answer : IsHeap ws n → r ≡ first (model_of ws n)
 
 -- `pop`: the least entry, which is then gone
-pub record Popping (ws : List ℕ) (n : ℕ) (ws' : List ℕ) (r : Popped) : Type 0 where
-  pub refused : fit n (length ws) ≡ false → (r ≡ record { len = n; answer = top.Nothing }) × (ws' ≡ ws)
-  pub shorter : fit n (length ws) ≡ true → r.len ≡ n - 1
-  pub answer : IsHeap ws n → r.answer ≡ first (model_of ws n)
-  pub heap : IsHeap ws n → IsHeap ws' r.len
-  pub model : IsHeap ws n → model_of ws' r.len ≡ rest (model_of ws n)
+pub record Popping (ws : List ℕ) (n : ℕ) (ws' : List ℕ) (n' : ℕ) (r : Option Entry) : Type 0 where
+  pub refused : fit n (length ws) ≡ false → (r ≡ None) × (n' ≡ n) × (ws' ≡ ws)
+  pub shorter : fit n (length ws) ≡ true → n' ≡ n - 1
+  pub answer : IsHeap ws n → r ≡ first (model_of ws n)
+  pub heap : IsHeap ws n → IsHeap ws' n'
+  pub model : IsHeap ws n → model_of ws' n' ≡ rest (model_of ws n)
   pub kept : Kept n ws ws'
 
 -- `entry_at`: entry i, and zeros where there is none

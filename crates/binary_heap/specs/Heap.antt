@@ -1,8 +1,6 @@
 -- What a heap in words is, and which entries it stands for.
-use Rattle.std.specs.Prelude.{◌≡◌, Bool, true, ◌&&◌, List, [], ◌∷◌, ℕ, ◌-◌, ◌*◌, ◌/◌, ◌<◌, ◌≤◌, leb, length}
+use Rattle.std.specs.Prelude.{◌≡◌, Bool, true, ◌&&◌, List, [], ◌∷◌, ℕ, ◌-◌, ◌*◌, ◌/◌, ◌<◌, ◌≤◌, leb, length, Option, None, Some}
 use Rattle.binary_heap.specs.declared.entries.Entry.{Entry}
-use Rattle.binary_heap.specs.declared.heap.Top.{Top}
-use Rattle.binary_heap.specs.declared.heap.Top.TheVariants as top
 use Rattle.binary_heap.specs.Order.{le, sort}
 use Rattle.binary_heap.specs.Entries.{entry_at, entries_of}
 
@@ -33,9 +31,9 @@ unfoldable pub model_of : List ℕ → ℕ → List Entry
 model_of ws n = sort (entries_of ws n)
 
 -- the first of a list, and what is left without it
-abbrev pub first : List Entry → Top
-first [] = top.Nothing
-first (e ∷ l) = top.Entry e
+abbrev pub first : List Entry → Option Entry
+first [] = None
+first (e ∷ l) = Some e
 
 abbrev pub rest : List Entry → List Entry
 rest [] = []

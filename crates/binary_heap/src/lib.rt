@@ -17,4 +17,4 @@ mod heap;
 mod sifts;
 
 pub use entries::Entry;
-pub use heap::{Popped, Pushed, Top, count_at_most, entry_at, is_heap, peek, pop, push};
+pub use heap::{count_at_most, entry_at, is_heap, peek, pop, push};

@@ -11,8 +11,7 @@ use borrow.Author.Tests.{eqb-true, ne_eqb}
 use Rattle.time.specs.declared.tick.Tick.{Tick}
 use Rattle.time.specs.declared.refusal.Refusal.{Refusal}
 use Rattle.time.specs.declared.refusal.Refusal.TheVariants.{InvalidNanos, KeyLimitReached}
-use Rattle.time.specs.declared.refusal.Outcome.{Outcome}
-use Rattle.time.specs.declared.refusal.Outcome.TheVariants as outcome
+use Rattle.std.specs.Prelude.{Result, Ok, Err, ⊤}
 use Rattle.rings.proofs.Counts.{by_lt}
 use Rattle.lazy_heap_model.specs.Model.{Heap, heap_len, before_push, pushed, updated, update_discards, removed, cleared}
 use Rattle.lazy_heap_model.specs.Model as lazy
@@ -30,6 +29,7 @@ use Rattle.expiring_model.specs.Model.{Book, Call, Change, keep, set, drop, drop
 use Rattle.expiring_model.specs.Discards.{discards, heap_after, discarded_by, heap_by}
 use Rattle.expiring.specs.Book.{IsBook, heap_of, model_of}
 use Rattle.expiring.specs.Calls.{Following}
+use Rattle.expiring.proofs.Limits.{err_ok}
 use Rattle.expiring.proofs.Purging.{purged_accounts, unexpired_length}
 
 -- ---- a pair taken out, or set
@@ -94,28 +94,25 @@ module _ {p : Book} {h : Heap} (o : Beside p h) where
 
   -- ---- a call
   module _ (t : Tick) (c : Call) where
-    accepted_within : refusal_of t c p ≡ outcome.Done → sets_beyond (change_of t c p) p ≡ false
+    accepted_within : refusal_of t c p ≡ Ok tt → sets_beyond (change_of t c p) p ≡ false
     unfolding refusal_of
     accepted_within q = go (bad_nanos c) (sets_beyond (change_of t c p) p) q
       where
-        never : {why : Refusal} → ◌≡◌ {A = Outcome} (outcome.Refused why) outcome.Done → ⊥
-        never e = let z : ◌≡◌ {A = ℕ} 0 1 = cc in omega arith
-
-        go : (a b : Bool) → cond a (outcome.Refused InvalidNanos) (cond b (outcome.Refused KeyLimitReached) outcome.Done) ≡ outcome.Done → b ≡ false
-        go true b e = absurd (never e)
-        go false true e = absurd (never e)
+        go : (a b : Bool) → ◌≡◌ {A = Result ⊤ Refusal} (cond a (Err InvalidNanos) (cond b (Err KeyLimitReached) (Ok tt))) (Ok tt) → b ≡ false
+        go true b e = absurd (err_ok InvalidNanos e)
+        go false true e = absurd (err_ok KeyLimitReached e)
         go false false e = refl
 
     pub accounts : discarded_by t c p h + heap_len (heap_by t c p h) + counted p ≡ heap_len h + counted (book_after t c p)
     unfolding discarded_by heap_by book_after accepted
     accounts = go (refusal_of t c p) refl
       where
-        go : (a : Outcome) → refusal_of t c p ≡ a → discarded_by t c p h + heap_len (heap_by t c p h) + counted p ≡ heap_len h + counted (book_after t c p)
-        go (outcome.Refused why) q = rw q (omega arith)
-        go outcome.Done q = rw q (omega (arith, change_accounts (change_of t c p) (accepted_within q)))
+        go : (a : Result ⊤ Refusal) → refusal_of t c p ≡ a → discarded_by t c p h + heap_len (heap_by t c p h) + counted p ≡ heap_len h + counted (book_after t c p)
+        go (Err why) q = rw q (omega arith)
+        go (Ok u) q = rw q (omega (arith, change_accounts (change_of t c p) (accepted_within q)))
 
     -- after an accepted setting entries are at most twice the deadlines held
-    pub setting_bound : {k : ℕ} {d : Tick} → change_of t c p ≡ set k d → refusal_of t c p ≡ outcome.Done → heap_len (heap_by t c p h) ≤ 2 * length (book_after t c p).deadlines
+    pub setting_bound : {k : ℕ} {d : Tick} → change_of t c p ≡ set k d → refusal_of t c p ≡ Ok tt → heap_len (heap_by t c p h) ≤ 2 * length (book_after t c p).deadlines
     unfolding heap_by book_after accepted heap_after pairs_after
     setting_bound {k} {d} e q =
         let b : length (updated k d.0 h).entries ≤ 2 * length (updated k d.0 h).held = subst (λ (f : ℕ). length (updated k d.0 h).entries ≤ f * length (updated k d.0 h).held) o.factor (updated_bound k d.0 h o.fair.factor.0) in
@@ -127,5 +124,5 @@ module _ {ws ws' : List ℕ} {b : Expiring} {t : Tick} {c : Call} {r : Reply} (i
   pub call_accounts : r.discarded + heap_len (heap_of ws' r.book) + counted (model_of ws b m n) ≡ heap_len (heap_of ws b) + counted (book_after t c (model_of ws b m n))
   call_accounts = omega (arith, accounts (beside_book is m n) t c, o.discarded is m n, ap heap_len (o.heap is m n))
 
-  pub call_bound : {k : ℕ} {d : Tick} → change_of t c (model_of ws b m n) ≡ set k d → refusal_of t c (model_of ws b m n) ≡ outcome.Done → heap_len (heap_of ws' r.book) ≤ 2 * length (book_after t c (model_of ws b m n)).deadlines
+  pub call_bound : {k : ℕ} {d : Tick} → change_of t c (model_of ws b m n) ≡ set k d → refusal_of t c (model_of ws b m n) ≡ Ok tt → heap_len (heap_of ws' r.book) ≤ 2 * length (book_after t c (model_of ws b m n)).deadlines
   call_bound e q = omega (arith, setting_bound (beside_book is m n) t c e q, ap heap_len (o.heap is m n))

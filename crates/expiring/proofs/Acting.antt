@@ -10,7 +10,8 @@ use Rattle.limits.specs.Limits.{book_limits}
 use Rattle.time.specs.declared.tick.Tick.{Tick}
 use Rattle.time.specs.declared.refusal.Refusal.{Refusal}
 use Rattle.time.specs.declared.refusal.Refusal.TheVariants.{InvalidNanos, KeyLimitReached}
-use Rattle.time.specs.declared.refusal.Outcome.TheVariants.{Done, Refused}
+use Rattle.time.specs.declared.duration.TtlTicks.{TtlTicks}
+use Rattle.std.specs.Prelude.{Option, Result, Ok, Err, ⊤}
 use Rattle.lazy_heap_model.specs.Model.{Heap}
 use Rattle.fast_lru_model.specs.Model.{Items}
 use Rattle.expiration_index.specs.Model.{Pairs}
@@ -18,16 +19,15 @@ use Rattle.expiring_model.specs.declared.answers.Answer.{Answer}
 use Rattle.expiring_model.specs.declared.answers.Answer.TheVariants as answers
 use Rattle.expiring.specs.declared.answers.Reply.{Reply}
 use Rattle.expiring.specs.declared.expiring.Expiring.{Expiring}
-use Rattle.expiring_model.specs.declared.lifetimes.DefaultTtl.{DefaultTtl}
 use Rattle.expiring_model.specs.Model.{Book, Call, Change, keep, set, drop, drop_expired, drop_all, look, change_of, pairs_after, stored_after, expired_by, answered, bad_nanos, sets_beyond, refusal_of, accepted, answer_of, book_after}
 use Rattle.expiring_model.specs.Discards.{discards, heap_after, discarded_by, heap_by}
 use Rattle.expiring.specs.Book.{capacity_of, limit_of, IsBook, heap_of, model_of}
 use Rattle.expiring.specs.Calls.{cause_of, Following}
 use Rattle.expiring.specs.Steps.{with_expired, replying, stored_of, deadlines_of, saturating_sum, Moved, beyond, Acting}
 use Rattle.expiring.proofs.Frames.{kept_same}
-use Rattle.expiring.proofs.Limits.{refused_done, no_book_lem}
+use Rattle.expiring.proofs.Limits.{err_ok, same_err, no_book_lem}
 
-same_refusal : {v w : Refusal} → answers.Refused v ≡ answers.Refused w → v ≡ w
+pub same_refusal : {v w : Refusal} → answers.Refused v ≡ answers.Refused w → v ≡ w
 same_refusal e = cc
 
 -- an answer that is no refusal
@@ -55,40 +55,40 @@ no_refusal a e why q = true≢false (sym (ap refuses q) ∙ e)
 
 -- ---- what the model says of a call, by whether it refuses
 module _ (t : Tick) (c : Call) (m : Book) where
-  answer_refused : {why : Refusal} → refusal_of t c m ≡ Refused why → answer_of t c m ≡ answers.Refused why
+  answer_refused : {why : Refusal} → refusal_of t c m ≡ Err why → answer_of t c m ≡ answers.Refused why
   unfolding answer_of
   answer_refused e = rw e
 
-  answer_done : refusal_of t c m ≡ Done → answer_of t c m ≡ answered t c m
+  answer_done : refusal_of t c m ≡ Ok tt → answer_of t c m ≡ answered t c m
   unfolding answer_of
   answer_done e = rw e
 
-  book_refused : {why : Refusal} → refusal_of t c m ≡ Refused why → book_after t c m ≡ m
+  book_refused : {why : Refusal} → refusal_of t c m ≡ Err why → book_after t c m ≡ m
   unfolding book_after
   book_refused e = rw e
 
-  book_done : refusal_of t c m ≡ Done → book_after t c m ≡ accepted t c m
+  book_done : refusal_of t c m ≡ Ok tt → book_after t c m ≡ accepted t c m
   unfolding book_after
   book_done e = rw e
 
   module _ (h : Heap) where
-    discards_refused : {why : Refusal} → refusal_of t c m ≡ Refused why → discarded_by t c m h ≡ 0
+    discards_refused : {why : Refusal} → refusal_of t c m ≡ Err why → discarded_by t c m h ≡ 0
     unfolding discarded_by
     discards_refused e = rw e
 
-    discards_done : refusal_of t c m ≡ Done → discarded_by t c m h ≡ discards (change_of t c m) h
+    discards_done : refusal_of t c m ≡ Ok tt → discarded_by t c m h ≡ discards (change_of t c m) h
     unfolding discarded_by
     discards_done e = rw e
 
-    heap_refused : {why : Refusal} → refusal_of t c m ≡ Refused why → heap_by t c m h ≡ h
+    heap_refused : {why : Refusal} → refusal_of t c m ≡ Err why → heap_by t c m h ≡ h
     unfolding heap_by
     heap_refused e = rw e
 
-    heap_done : refusal_of t c m ≡ Done → heap_by t c m h ≡ heap_after (change_of t c m) h
+    heap_done : refusal_of t c m ≡ Ok tt → heap_by t c m h ≡ heap_after (change_of t c m) h
     unfolding heap_by
     heap_done e = rw e
 
-pub same_book : {c c' d d' e e' r x : ℕ} {l l' : DefaultTtl} {s s' : Items} {p p' : Pairs} → c ≡ c' → d ≡ d' → l ≡ l' → s ≡ s' → p ≡ p' → e ≡ e'
+pub same_book : {c c' d d' e e' r x : ℕ} {l l' : Option TtlTicks} {s s' : Items} {p p' : Pairs} → c ≡ c' → d ≡ d' → l ≡ l' → s ≡ s' → p ≡ p' → e ≡ e'
     → ◌≡◌ {A = Book} (record { capacity = c; limit = d; lifetime = l; stored = s; deadlines = p; expirations = e; replaced = r; removed = x }) (record { capacity = c'; limit = d'; lifetime = l'; stored = s'; deadlines = p'; expirations = e'; replaced = r; removed = x })
 same_book a b c d e f = cc
 
@@ -110,23 +110,23 @@ reads_itself ws b m n = refl
 
 -- ---- refusals 1, 2 and 3
 module _ (ws : List ℕ) (b : Expiring) (t : Tick) (c : Call) where
-  no_cause : book_limits (capacity_of b) (limit_of b) (length ws) ≡ Done → bad_nanos c ≡ false → cause_of b (length ws) c ≡ Done
+  no_cause : book_limits (capacity_of b) (limit_of b) (length ws) ≡ Ok tt → bad_nanos c ≡ false → cause_of b (length ws) c ≡ Ok tt
   unfolding cause_of
   no_cause l n = rw (l, n)
 
-  cause_limits : {why : Refusal} → book_limits (capacity_of b) (limit_of b) (length ws) ≡ Refused why → cause_of b (length ws) c ≡ Refused why
+  cause_limits : {why : Refusal} → book_limits (capacity_of b) (limit_of b) (length ws) ≡ Err why → cause_of b (length ws) c ≡ Err why
   unfolding cause_of
   cause_limits l = rw l
 
-  cause_nanos : book_limits (capacity_of b) (limit_of b) (length ws) ≡ Done → bad_nanos c ≡ true → cause_of b (length ws) c ≡ Refused InvalidNanos
+  cause_nanos : book_limits (capacity_of b) (limit_of b) (length ws) ≡ Ok tt → bad_nanos c ≡ true → cause_of b (length ws) c ≡ Err InvalidNanos
   unfolding cause_of
   cause_nanos l n = rw (l, n)
 
   -- turned back by a cause: no book has cause 1 or 2, and the model turns back cause 3 too
-  turned_back : {why : Refusal} → cause_of b (length ws) c ≡ Refused why → (IsBook ws b → (m n : ℕ) → refusal_of t c (model_of ws b m n) ≡ Refused why) → Following ws b t c ws (replying b (answers.Refused why))
+  turned_back : {why : Refusal} → cause_of b (length ws) c ≡ Err why → (IsBook ws b → (m n : ℕ) → refusal_of t c (model_of ws b m n) ≡ Err why) → Following ws b t c ws (replying b (answers.Refused why))
   turned_back {why} e f = record {
-    caused = λ w q. ap answers.Refused (let same : Refused why ≡ Refused w = sym e ∙ q in let x : why ≡ w = cc in x);
-    only = λ w q. inl (let x : why ≡ w = same_refusal q in e ∙ ap Refused x);
+    caused = λ w q. ap answers.Refused (let x : why ≡ w = same_err (sym e ∙ q) in x);
+    only = λ w q. inl (let x : why ≡ w = same_refusal q in e ∙ ap Err x);
     refused = λ w q. (refl, refl, refl);
     book = λ o. o;
     answer = λ o m n. sym (answer_refused t c _ (f o m n));
@@ -136,21 +136,21 @@ module _ (ws : List ℕ) (b : Expiring) (t : Tick) (c : Call) where
     kept = kept_same (capacity_of b) (limit_of b) ws;
   }
 
-  pub follow_limits : {why : Refusal} → book_limits (capacity_of b) (limit_of b) (length ws) ≡ Refused why → Following ws b t c ws (replying b (answers.Refused why))
+  pub follow_limits : {why : Refusal} → book_limits (capacity_of b) (limit_of b) (length ws) ≡ Err why → Following ws b t c ws (replying b (answers.Refused why))
   follow_limits e = turned_back (cause_limits e) (λ o. absurd (no_book_lem ws b e o))
 
-  pub follow_nanos : book_limits (capacity_of b) (limit_of b) (length ws) ≡ Done → bad_nanos c ≡ true → Following ws b t c ws (replying b (answers.Refused InvalidNanos))
+  pub follow_nanos : book_limits (capacity_of b) (limit_of b) (length ws) ≡ Ok tt → bad_nanos c ≡ true → Following ws b t c ws (replying b (answers.Refused InvalidNanos))
   unfolding refusal_of
   follow_nanos l n = turned_back (cause_nanos l n) (λ o x y. refusal x y)
     where
-      refusal : (x y : ℕ) → refusal_of t c (model_of ws b x y) ≡ Refused InvalidNanos
+      refusal : (x y : ℕ) → refusal_of t c (model_of ws b x y) ≡ Err InvalidNanos
       refusal x y = rw n
 
   -- ---- a call that is not turned back by a cause
-  module _ (limits : book_limits (capacity_of b) (limit_of b) (length ws) ≡ Done) (nanos : bad_nanos c ≡ false) {ch : Change} {s : Items} {n : ℕ} {a : Answer} {ws' : List ℕ} {r : Reply} (act : Acting ws b ch s n a ws' r)
+  module _ (limits : book_limits (capacity_of b) (limit_of b) (length ws) ≡ Ok tt) (nanos : bad_nanos c ≡ false) {ch : Change} {s : Items} {n : ℕ} {a : Answer} {ws' : List ℕ} {r : Reply} (act : Acting ws b ch s n a ws' r)
       (change : IsBook ws b → (x y : ℕ) → change_of t c (model_of ws b x y) ≡ ch) (stored : IsBook ws b → (x y : ℕ) → stored_after t c (model_of ws b x y) ≡ s)
       (expired : IsBook ws b → (x y : ℕ) → expired_by t c (model_of ws b x y) ≡ n) (answer : IsBook ws b → (x y : ℕ) → answered t c (model_of ws b x y) ≡ a) where
-    refusal : IsBook ws b → (x y : ℕ) → refusal_of t c (model_of ws b x y) ≡ cond (beyond ch ws b) (Refused KeyLimitReached) Done
+    refusal : IsBook ws b → (x y : ℕ) → refusal_of t c (model_of ws b x y) ≡ cond (beyond ch ws b) (Err KeyLimitReached) (Ok tt)
     unfolding refusal_of
     refusal o x y = rw (nanos, change o x y, beyond_is ch ws b x y)
 
@@ -163,7 +163,7 @@ module _ (ws : List ℕ) (b : Expiring) (t : Tick) (c : Call) where
 
     pub follow : Following ws b t c ws' r
     follow = record {
-      caused = λ why e. absurd (refused_done why (sym e ∙ no_cause limits nanos));
+      caused = λ why e. absurd (err_ok why (sym e ∙ no_cause limits nanos));
       only = λ why e. inr (no_cause limits nanos, act.only why e);
       refused = act.refused;
       book = act.book;
@@ -174,10 +174,10 @@ module _ (ws : List ℕ) (b : Expiring) (t : Tick) (c : Call) where
       kept = act.kept;
     }
       where
-        full : IsBook ws b → beyond ch ws b ≡ true → (x y : ℕ) → refusal_of t c (model_of ws b x y) ≡ Refused KeyLimitReached
+        full : IsBook ws b → beyond ch ws b ≡ true → (x y : ℕ) → refusal_of t c (model_of ws b x y) ≡ Err KeyLimitReached
         full o e x y = refusal o x y ∙ rw e
 
-        done : IsBook ws b → beyond ch ws b ≡ false → (x y : ℕ) → refusal_of t c (model_of ws b x y) ≡ Done
+        done : IsBook ws b → beyond ch ws b ≡ false → (x y : ℕ) → refusal_of t c (model_of ws b x y) ≡ Ok tt
         done o e x y = refusal o x y ∙ rw e
 
         by : {P : Type 0} → IsBook ws b → (beyond ch ws b ≡ true → P) → (beyond ch ws b ≡ false → P) → P
@@ -228,20 +228,20 @@ module _ {ws ws' : List ℕ} {b b' : Expiring} {ch : Change} {f : Items → Item
   }
 
 -- and where there is no room for another deadline
-pub acting_full : (ws : List ℕ) (b : Expiring) {ch : Change} {s : Items} {n : ℕ} {a : Answer} {ws' : List ℕ} → ws' ≡ ws → (IsBook ws b → beyond ch ws b ≡ true) → Acting ws b ch s n a ws' (replying b (answers.Refused KeyLimitReached))
-acting_full ws b {ch} e f = record {
+pub acting_full : (ws : List ℕ) (b : Expiring) {ch : Change} {s : Items} {n : ℕ} {a : Answer} {ws' : List ℕ} {b' : Expiring} {why : Refusal} → why ≡ KeyLimitReached → (b' ≡ b) × (ws' ≡ ws) → (IsBook ws b → beyond ch ws b ≡ true) → Acting ws b ch s n a ws' (replying b' (answers.Refused why))
+acting_full ws b {ch} w (e, f) full = rw (w, e, f) (record {
   only = λ why q. sym (same_refusal q);
-  refused = λ why q. (refl, refl, e);
+  refused = λ why q. (refl, refl, refl);
   full = λ o q. refl;
   capacity = refl;
   limit = refl;
   lifetime = refl;
-  book = λ o. rw e o;
-  answer = λ o q. absurd (true≢false (sym (f o) ∙ q));
-  expirations = λ o q. absurd (true≢false (sym (f o) ∙ q));
-  stored = λ o q. absurd (true≢false (sym (f o) ∙ q));
-  deadlines = λ o q. absurd (true≢false (sym (f o) ∙ q));
-  heap = λ o q. absurd (true≢false (sym (f o) ∙ q));
-  discarded = λ o q. absurd (true≢false (sym (f o) ∙ q));
-  kept = rw e (kept_same (capacity_of b) (limit_of b) ws);
-}
+  book = λ o. o;
+  answer = λ o q. absurd (true≢false (sym (full o) ∙ q));
+  expirations = λ o q. absurd (true≢false (sym (full o) ∙ q));
+  stored = λ o q. absurd (true≢false (sym (full o) ∙ q));
+  deadlines = λ o q. absurd (true≢false (sym (full o) ∙ q));
+  heap = λ o q. absurd (true≢false (sym (full o) ∙ q));
+  discarded = λ o q. absurd (true≢false (sym (full o) ∙ q));
+  kept = kept_same (capacity_of b) (limit_of b) ws;
+})

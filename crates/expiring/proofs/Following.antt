@@ -1,41 +1,25 @@
 -- Each call, as the model says it.
 use mathlib.Core.Path.{◌≡◌, refl, sym, ap, ◌∙◌}
 use mathlib.Core.Bool.{Bool, true, false, ◌&&◌}
-use mathlib.Core.Option.{Option, none, some}
 use mathlib.Core.List.{List, []}
 use Prim.Native.Nat.{ℕ, ◌-◌, ◌^◌, ◌<◌}
 use lib.ListN.{length}
 use borrow.Author.Tests.{eq-eqb, ne_eqb}
+use Rattle.std.specs.Prelude.{Option, Some, None, Result, Ok, Err, ⊤}
+use Rattle.std.specs.Result.{result_unwrap_or}
 use Rattle.limits.specs.Limits.{book_limits}
 use Rattle.time.specs.declared.tick.Tick.{Tick}
-use Rattle.time.specs.declared.tick.Remaining.{Remaining}
-use Rattle.time.specs.declared.tick.Remaining.TheVariants as remaining
 use Rattle.time.specs.declared.duration.Duration.{Duration}
 use Rattle.time.specs.declared.duration.TtlTicks.{TtlTicks}
-use Rattle.time.specs.declared.refusal.Refusal.TheVariants.{KeyLimitReached}
-use Rattle.time.specs.declared.refusal.Outcome.TheVariants.{Done}
+use Rattle.time.specs.declared.refusal.Refusal.{Refusal}
 use Rattle.time.specs.Duration.{is_zero, is_duration, millis_of}
 use Rattle.time.specs.Deadline.{deadline_from, remaining_at}
-use Rattle.fast_lru_model.specs.declared.answers.Told.{Told}
-use Rattle.fast_lru_model.specs.declared.answers.Told.TheVariants as told
-use Rattle.fast_lru.specs.declared.answers.Touched.{Touched}
-use Rattle.fast_lru_model.specs.declared.answers.Found.{Found}
-use Rattle.fast_lru.specs.declared.answers.Got.{Got}
-use Rattle.fast_lru_model.specs.declared.answers.Oldest.{Oldest}
-use Rattle.fast_lru_model.specs.declared.answers.Oldest.TheVariants as oldest
-use Rattle.fast_lru.specs.declared.answers.Popped.{Popped}
-use Rattle.fast_lru_model.specs.declared.answers.Rank.{Rank}
-use Rattle.fast_lru_model.specs.declared.answers.Rank.TheVariants as rank
-use Rattle.fast_lru.specs.declared.answers.Ranked.{Ranked}
-use Rattle.fast_lru.specs.declared.answers.Opened.{Opened}
+use Rattle.lazy_heap_model.specs.declared.counted.Counted.{Counted}
+use Rattle.fast_lru.specs.declared.lru.FastLru.{FastLru}
 use Rattle.fast_lru_model.specs.Model.{Item, to_front, popped, last, oldest_of}
 use Rattle.fast_lru_model.specs.Model as list
 use Rattle.fast_lru.specs.Calls as lru
-use Rattle.expiration_index.specs.declared.answers.Deadline.{Deadline}
-use Rattle.expiration_index.specs.declared.answers.Deadline.TheVariants as deadline
-use Rattle.expiration_index.specs.declared.answers.Due.{Due}
-use Rattle.expiration_index.specs.declared.answers.Due.TheVariants as due
-use Rattle.expiration_index.specs.declared.answers.Looked.{Looked}
+use Rattle.expiration_index.specs.declared.index.ExpirationIndex.{ExpirationIndex}
 use Rattle.expiration_index.specs.Model.{Pair, next, next_due, pair_in, deadline_in, deadline_of}
 use Rattle.expiration_index.specs.Model as pairs
 use Rattle.expiration_index.specs.Index as index
@@ -44,16 +28,16 @@ use Rattle.expiring_model.specs.declared.answers.Answer.{Answer}
 use Rattle.expiring_model.specs.declared.answers.Answer.TheVariants as answers
 use Rattle.expiring.specs.declared.answers.Reply.{Reply}
 use Rattle.expiring.specs.declared.expiring.Expiring.{Expiring}
-use Rattle.expiring_model.specs.declared.lifetimes.DefaultTtl.TheVariants as default
 use Rattle.expiring_model.specs.Model.{Call, contains, peek, get, insert, remove, clear, insert_with_ttl, ttl_status, set_ttl, live_len, expirations, next_deadline, touch, recency_rank, pop_lru, peek_lru, keep, set, drop, drop_all, is_expired, change_of, stored_after, expired_by, answered, bad_nanos, value_unless_expired, item_in, due_in, rank_in, tell, status_in, lives_at}
 use Rattle.expiring.specs.Book.{Room, capacity_of, limit_of, IsBook, model_of}
 use Rattle.expiring.specs.Calls.{Following}
-use Rattle.expiring_answers.specs.Answers.{of_found, of_told, of_oldest, of_due, status_of}
+use Rattle.expiring_answers.specs.Answers.{of_found, of_oldest, of_due, status_of}
 use Rattle.expiring.specs.Steps.{with_list, with_index, with_expired, replying, stored_of, deadlines_of, DeadlineOf, Expired, Stored, StoredCount, ExpiredCount, Moved, same, Dating, Inserting, Removing}
-use Rattle.expiring.proofs.Moving.{moved_list, moved_then, moved_same, moved_look, lent, back, lent_is, lent_index}
+use Rattle.expiring.proofs.Limits.{same_value}
+use Rattle.expiring.proofs.Moving.{moved_then, moved_same, moved_look, lent, back, lent_is, lent_index}
 use Rattle.expiring.proofs.Acting.{Accepted, no_refusal, follow, acting, acting_expired, acting_full}
-use Rattle.expiring.proofs.Valuing.{found_accepted, value_of_lem}
-use Rattle.expiring.proofs.Calling.{nothing_accepted, unset_beyond, set_within}
+use Rattle.expiring.proofs.Valuing.{found_accepted, value_of_lem, said_asking, moved_values, said_changing}
+use Rattle.expiring.proofs.Calling.{nothing_accepted}
 
 -- ---- answers that are no refusals
 pub tell_accepted : (x : Bool) → Accepted (tell x)
@@ -69,16 +53,27 @@ done_accepted = no_refusal answers.Done refl
 missing_accepted : Accepted answers.Missing
 missing_accepted = no_refusal answers.Missing refl
 
-told_accepted : (x : Told) → Accepted (of_told x)
-told_accepted told.Yes = no_refusal answers.Yes refl
-told_accepted told.No = no_refusal answers.No refl
-told_accepted (told.Refused w) = no_refusal answers.No refl
+rank_accepted : (x : Option ℕ) → Accepted (rank_in x)
+rank_accepted (Some n) = no_refusal (answers.Rank n) refl
+rank_accepted None = no_refusal answers.Nothing refl
+
+oldest_accepted : (x : Option (ℕ × ℕ)) → Accepted (of_oldest x)
+oldest_accepted (Some (k, v)) = no_refusal (answers.Item k v) refl
+oldest_accepted None = no_refusal answers.Nothing refl
+
+due_accepted : (x : Option (ℕ × Tick)) → Accepted (of_due x)
+due_accepted (Some (k, d)) = no_refusal (answers.Due k d) refl
+due_accepted None = no_refusal answers.Nothing refl
+
+lives_accepted : (d : Tick) (x : Option TtlTicks) → Accepted (lives_at d x)
+lives_accepted d None = no_refusal answers.Expired refl
+lives_accepted d (Some l) = no_refusal (answers.Live l d) refl
+
+status_accepted : (x : Option Tick) (t : Tick) → Accepted (status_of x t)
+status_accepted (Some d) t = lives_accepted d (remaining_at d t)
+status_accepted None t = no_refusal answers.Immortal refl
 
 -- ---- the answers of the layers below
-told_tell : (x : Bool) → of_told (list.tell x) ≡ tell x
-told_tell true = refl
-told_tell false = refl
-
 and_true : (x : Bool) → (x && true) ≡ x
 and_true true = refl
 and_true false = refl
@@ -87,44 +82,20 @@ and-false : (x : Bool) → (x && false) ≡ false
 and-false true = refl
 and-false false = refl
 
-rank_accepted : (x : Rank) → Accepted (rank_in x)
-rank_accepted (rank.At n) = no_refusal (answers.Rank n) refl
-rank_accepted rank.Nothing = no_refusal answers.Nothing refl
-rank_accepted (rank.Refused w) = no_refusal answers.Nothing refl
-
-oldest_accepted : (x : Oldest) → Accepted (of_oldest x)
-oldest_accepted (oldest.Item k v) = no_refusal (answers.Item k v) refl
-oldest_accepted oldest.Nothing = no_refusal answers.Nothing refl
-oldest_accepted (oldest.Refused w) = no_refusal answers.Nothing refl
-
 oldest_in : (x : Option Item) → of_oldest (list.item_in x) ≡ item_in x
-oldest_in none = refl
-oldest_in (some i) = refl
-
-due_accepted : (x : Due) → Accepted (of_due x)
-due_accepted (due.Pair k d) = no_refusal (answers.Due k d) refl
-due_accepted due.Nothing = no_refusal answers.Nothing refl
-due_accepted (due.Refused w) = no_refusal answers.Nothing refl
+oldest_in None = refl
+oldest_in (Some i) = refl
 
 due_in_lem : (x : Option Pair) → of_due (pair_in x) ≡ due_in x
-due_in_lem none = refl
-due_in_lem (some p) = refl
-
-lives_accepted : (d : Tick) (x : Remaining) → Accepted (lives_at d x)
-lives_accepted d remaining.Expired = no_refusal answers.Expired refl
-lives_accepted d (remaining.Live l) = no_refusal (answers.Live l d) refl
-
-status_accepted : (x : Deadline) (t : Tick) → Accepted (status_of x t)
-status_accepted (deadline.At d) t = lives_accepted d (remaining_at d t)
-status_accepted deadline.Nothing t = no_refusal answers.Immortal refl
-status_accepted (deadline.Refused w) t = no_refusal answers.Immortal refl
+due_in_lem None = refl
+due_in_lem (Some p) = refl
 
 status_in_lem : (x : Option Pair) (t : Tick) → status_of (deadline_in x) t ≡ status_in t x
-status_in_lem none t = refl
-status_in_lem (some p) t = refl
+status_in_lem None t = refl
+status_in_lem (Some p) t = refl
 
 -- ---- calls that are not turned back by a cause
-module _ (ws : List ℕ) (b : Expiring) (t : Tick) (limits : book_limits (capacity_of b) (limit_of b) (length ws) ≡ Done) (word : b.expirations < 2 ^ 64) where
+module _ (ws : List ℕ) (b : Expiring) (t : Tick) (limits : book_limits (capacity_of b) (limit_of b) (length ws) ≡ Ok tt) (word : b.expirations < 2 ^ 64) where
   -- one that changes nothing
   module _ (c : Call) (nanos : bad_nanos c ≡ false) (change : (x y : ℕ) → change_of t c (model_of ws b x y) ≡ keep) (stored : (x y : ℕ) → stored_after t c (model_of ws b x y) ≡ stored_of ws b) (expired : (x y : ℕ) → expired_by t c (model_of ws b x y) ≡ 0) where
     follow_same : {u : Answer} → Accepted u → (IsBook ws b → (x y : ℕ) → answered t c (model_of ws b x y) ≡ u) → Following ws b t c ws (replying b u)
@@ -134,19 +105,19 @@ module _ (ws : List ℕ) (b : Expiring) (t : Tick) (limits : book_limits (capaci
   unfolding change_of stored_after expired_by answered bad_nanos model_of is_expired
   follow_contains {k} x y = follow_same (contains k) refl (λ m n. refl) (λ m n. refl) (λ m n. refl) (tell_accepted false) (λ o m n. rw (sym (x.answer o), y) (ap tell (and-false (list.has k (stored_of ws b)))))
 
-  pub follow_contained : {k : ℕ} {e : Bool} {r : Told} {u : Answer} → Expired ws b t k e → e ≡ false → lru.Containing ws b.inner k r → u ≡ of_told r → Following ws b t (contains k) ws (replying b u)
+  pub follow_contained : {k : ℕ} {e r : Bool} {u : Answer} → Expired ws b t k e → e ≡ false → Stored ws b k r → u ≡ tell r → Following ws b t (contains k) ws (replying b u)
   unfolding change_of stored_after expired_by answered bad_nanos model_of is_expired
   follow_contained {k} {e} {r} x y a u =
-      rw u (follow_same (contains k) refl (λ m n. refl) (λ m n. refl) (λ m n. refl) (told_accepted r) (λ o m n. rw (sym (x.answer o), y) (ap tell (and_true (list.has k (stored_of ws b))) ∙ sym (ap of_told (a.answer o.list) ∙ told_tell (list.has k (stored_of ws b))))))
+      rw u (follow_same (contains k) refl (λ m n. refl) (λ m n. refl) (λ m n. refl) (tell_accepted r) (λ o m n. rw (sym (x.answer o), y) (ap tell (and_true (list.has k (stored_of ws b)) ∙ sym (a.answer o)))))
 
   pub follow_peek : {k : ℕ} {e : Bool} → Expired ws b t k e → e ≡ true → Following ws b t (peek k) ws (replying b answers.Nothing)
   unfolding change_of stored_after expired_by answered bad_nanos model_of is_expired value_unless_expired
   follow_peek {k} x y = follow_same (peek k) refl (λ m n. refl) (λ m n. refl) (λ m n. refl) nothing_accepted (λ o m n. rw (sym (x.answer o), y))
 
-  pub follow_peeked : {k : ℕ} {e : Bool} {r : Found} {u : Answer} → Expired ws b t k e → e ≡ false → lru.Peeking ws b.inner k r → u ≡ of_found r → Following ws b t (peek k) ws (replying b u)
+  pub follow_peeked : {k : ℕ} {e : Bool} {r : Result (Option ℕ) Refusal} {u : Answer} → Expired ws b t k e → e ≡ false → lru.Peeking ws b.inner k r → u ≡ of_found (result_unwrap_or r None) → Following ws b t (peek k) ws (replying b u)
   unfolding change_of stored_after expired_by answered bad_nanos model_of is_expired value_unless_expired
   follow_peeked {k} {e} {r} x y a u =
-      rw u (follow_same (peek k) refl (λ m n. refl) (λ m n. refl) (λ m n. refl) (found_accepted r) (λ o m n. rw (sym (x.answer o), y) (sym (ap of_found (a.answer o.list) ∙ value_of_lem k (stored_of ws b)))))
+      rw u (follow_same (peek k) refl (λ m n. refl) (λ m n. refl) (λ m n. refl) (found_accepted (result_unwrap_or r None)) (λ o m n. rw (sym (x.answer o), y) (sym (ap of_found (said_asking a None o) ∙ value_of_lem k (stored_of ws b)))))
 
   -- ---- `get`
   pub follow_get_expired : {k : ℕ} {e : Bool} {ws' : List ℕ} {b' : Expiring} → Expired ws b t k e → e ≡ true → Moved ws b (drop k) (list.without k) ws' b' 0 → Following ws b t (get k) ws' (replying (with_expired b' 1) answers.Nothing)
@@ -155,22 +126,22 @@ module _ (ws : List ℕ) (b : Expiring) (t : Tick) (limits : book_limits (capaci
       follow ws b t (get k) limits refl (acting_expired d (λ o. refl) 1 nothing_accepted (λ o. refl) (λ o. refl) (λ o. refl))
       (λ o m n. rw (sym (x.answer o), y)) (λ o m n. rw (sym (x.answer o), y)) (λ o m n. rw (sym (x.answer o), y)) (λ o m n. rw (sym (x.answer o), y))
 
-  pub follow_got : {k : ℕ} {e : Bool} {ws' : List ℕ} {r : Got} {u : Answer} → Expired ws b t k e → e ≡ false → lru.Getting ws b.inner k ws' r → u ≡ of_found r.answer → Following ws b t (get k) ws' (replying (with_list b r.lru) u)
+  pub follow_got : {k : ℕ} {e : Bool} {ws' : List ℕ} {b' : Expiring} {r : Option ℕ} {u : Answer} → Expired ws b t k e → e ≡ false → Moved ws b keep (to_front k) ws' b' 0 → (IsBook ws b → r ≡ list.value_of k (stored_of ws b)) → u ≡ of_found r → Following ws b t (get k) ws' (replying b' u)
   unfolding change_of stored_after expired_by answered bad_nanos model_of is_expired value_unless_expired
-  follow_got {k} {e} {ws'} {r} x y a u =
-      rw u (follow ws b t (get k) limits refl (acting (moved_list b r.lru a.capacity a.kept (to_front k) a.list a.model) (λ o. refl) word (found_accepted r.answer) (λ o. refl) (λ o. refl) (λ o. refl))
-      (λ o m n. rw (sym (x.answer o), y)) (λ o m n. rw (sym (x.answer o), y)) (λ o m n. rw (sym (x.answer o), y)) (λ o m n. rw (sym (x.answer o), y) (sym (ap of_found (a.answer o.list) ∙ value_of_lem k (stored_of ws b)))))
+  follow_got {k} {r = r} x y m a u =
+      rw u (follow ws b t (get k) limits refl (acting m (λ o. refl) word (found_accepted r) (λ o. refl) (λ o. refl) (λ o. refl))
+      (λ o m n. rw (sym (x.answer o), y)) (λ o m n. rw (sym (x.answer o), y)) (λ o m n. rw (sym (x.answer o), y)) (λ o m n. rw (sym (x.answer o), y) (sym (ap of_found (a o) ∙ value_of_lem k (stored_of ws b)))))
 
   -- ---- `remove` and `insert`
   pub follow_remove : {k : ℕ} {ws' : List ℕ} {r : Reply} → Removing ws b t k ws' r → Following ws b t (remove k) ws' r
   unfolding change_of stored_after expired_by answered bad_nanos model_of is_expired value_unless_expired
   follow_remove {k} a = follow ws b t (remove k) limits refl a (λ o m n. refl) (λ o m n. refl) (λ o m n. refl) (λ o m n. refl)
 
-  pub follow_insert_default : {k v : ℕ} {l : TtlTicks} {d : Tick} {ws' : List ℕ} {r : Reply} → b.default_ttl ≡ default.Of l → d ≡ deadline_from t l → Inserting ws b t k v (set k d) ws' r → Following ws b t (insert k v) ws' r
+  pub follow_insert_default : {k v : ℕ} {l : TtlTicks} {d : Tick} {ws' : List ℕ} {r : Reply} → b.default_ttl ≡ Some l → d ≡ deadline_from t l → Inserting ws b t k v (set k d) ws' r → Following ws b t (insert k v) ws' r
   unfolding change_of stored_after expired_by answered bad_nanos model_of is_expired value_unless_expired
   follow_insert_default {k} {v} e f a = follow ws b t (insert k v) limits refl a (λ o m n. rw (e, f)) (λ o m n. refl) (λ o m n. refl) (λ o m n. refl)
 
-  pub follow_insert : {k v : ℕ} {ws' : List ℕ} {r : Reply} → b.default_ttl ≡ default.Nothing → Inserting ws b t k v (drop k) ws' r → Following ws b t (insert k v) ws' r
+  pub follow_insert : {k v : ℕ} {ws' : List ℕ} {r : Reply} → b.default_ttl ≡ None → Inserting ws b t k v (drop k) ws' r → Following ws b t (insert k v) ws' r
   unfolding change_of stored_after expired_by answered bad_nanos model_of is_expired value_unless_expired
   follow_insert {k} {v} e a = follow ws b t (insert k v) limits refl a (λ o m n. rw e) (λ o m n. refl) (λ o m n. refl) (λ o m n. refl)
 
@@ -183,11 +154,11 @@ module _ (ws : List ℕ) (b : Expiring) (t : Tick) (limits : book_limits (capaci
   follow_timed {k} {v} {d} i z e f a = follow ws b t (insert_with_ttl k v d) limits (rw i) a (λ o m n. rw (z, f, e)) (λ o m n. rw z) (λ o m n. refl) (λ o m n. refl)
 
   -- ---- `clear`
-  pub follow_clear : {ws₁ ws₂ : List ℕ} {r : Opened} {b₂ : Expiring} {n : ℕ} → lru.Clearing ws b.inner ws₁ r → Moved ws₁ (with_list b r.lru) drop_all same ws₂ b₂ n → Following ws b t clear ws₂ (record { book = b₂; answer = answers.Done; discarded = n })
+  pub follow_clear : {ws₁ ws₂ : List ℕ} {l : FastLru} {r : Result ⊤ Refusal} {b₂ : Expiring} {n : ℕ} → lru.Clearing ws b.inner ws₁ l r → Moved ws₁ (with_list b l) drop_all same ws₂ b₂ n → Following ws b t clear ws₂ (record { book = b₂; answer = answers.Done; discarded = n })
   unfolding change_of stored_after expired_by answered bad_nanos model_of
-  follow_clear {ws₁} {ws₂} {r} a m =
+  follow_clear a m =
       follow ws b t clear limits refl
-      (acting (moved_then (moved_list b r.lru a.capacity a.kept (λ s. []) a.list a.model) m) (λ o. refl) word done_accepted (λ o. refl) (λ o. refl) (λ o. refl))
+      (acting (moved_then (moved_values {b = b} a) m) (λ o. refl) word done_accepted (λ o. refl) (λ o. refl) (λ o. refl))
       (λ o x y. refl) (λ o x y. refl) (λ o x y. refl) (λ o x y. refl)
 
   -- ---- `ttl_status`
@@ -195,10 +166,10 @@ module _ (ws : List ℕ) (b : Expiring) (t : Tick) (limits : book_limits (capaci
   unfolding change_of stored_after expired_by answered bad_nanos model_of
   follow_status_missing {k} s y = follow_same (ttl_status k) refl (λ m n. refl) (λ m n. refl) (λ m n. refl) missing_accepted (λ o m n. rw (sym (s.answer o), y))
 
-  pub follow_status : {k : ℕ} {s : Bool} {d : Deadline} {u : Answer} → Stored ws b k s → s ≡ true → DeadlineOf ws b k d → u ≡ status_of d t → Following ws b t (ttl_status k) ws (replying b u)
+  pub follow_status : {k : ℕ} {s : Bool} {d : Option Tick} {u : Answer} → Stored ws b k s → s ≡ true → DeadlineOf ws b k d → u ≡ status_of d t → Following ws b t (ttl_status k) ws (replying b u)
   unfolding change_of stored_after expired_by answered bad_nanos model_of deadline_of
   follow_status {k} {s} {d} s₁ y a u =
-      rw u (follow_same (ttl_status k) refl (λ m n. refl) (λ m n. refl) (λ m n. refl) (status_accepted d t) (λ o m n. rw (sym (s₁.answer o), y) (sym (ap (λ (x : Deadline). status_of x t) (a.answer o) ∙ status_in_lem (pairs.lookup k (deadlines_of ws b)) t))))
+      rw u (follow_same (ttl_status k) refl (λ m n. refl) (λ m n. refl) (λ m n. refl) (status_accepted d t) (λ o m n. rw (sym (s₁.answer o), y) (sym (ap (λ (x : Option Tick). status_of x t) (a.answer o) ∙ status_in_lem (pairs.lookup k (deadlines_of ws b)) t))))
 
   -- ---- `live_len` and `expirations`
   pub follow_live : {s e : ℕ} {u : Answer} → StoredCount ws b s → ExpiredCount ws b t e → u ≡ answers.Count (s - e) → Following ws b t live_len ws (replying b u)
@@ -210,32 +181,32 @@ module _ (ws : List ℕ) (b : Expiring) (t : Tick) (limits : book_limits (capaci
   follow_expirations = follow_same expirations refl (λ m n. refl) (λ m n. refl) (λ m n. refl) (count_accepted b.expirations) (λ o m n. refl)
 
   -- ---- `next_deadline`
-  pub follow_next : (room : Room (length ws) (capacity_of b) (limit_of b)) {ys : List ℕ} {r : Looked} {u : Answer} → calls.NextDeadline (lent ws b) b.index ys r → u ≡ of_due r.answer → Following ws b t next_deadline (back ws b ys) (record { book = with_index b r.index; answer = u; discarded = r.discarded })
+  pub follow_next : (room : Room (length ws) (capacity_of b) (limit_of b)) {ys : List ℕ} {x : ExpirationIndex} {r : Result (Counted (Option (ℕ × Tick))) Refusal} {y : Counted (Option (ℕ × Tick))} {u : Answer} → calls.NextDeadline (lent ws b) b.index ys x r → r ≡ Ok y → u ≡ of_due y.answer → Following ws b t next_deadline (back ws b ys) (record { book = with_index b x; answer = u; discarded = y.discarded })
   unfolding change_of stored_after expired_by answered bad_nanos model_of next_due
-  follow_next room {ys} {r} a u =
-      rw u (follow ws b t next_deadline limits refl (acting (moved_look ws b room a.call) (λ o. refl) word (due_accepted r.answer) (λ o. refl) (λ o. refl) (λ o. refl))
-      (λ o x y. refl) (λ o x y. refl) (λ o x y. refl) (λ o x y. sym (ap of_due (a.answer (lent_index ws b room o)) ∙ due_in_lem (next (index.model_of (lent ws b) b.index)) ∙ ap (λ (l : List ℕ). due_in (next (index.model_of l b.index))) (lent_is ws b room))))
+  follow_next room {y = y} a e u =
+      rw u (follow ws b t next_deadline limits refl (acting (moved_look ws b room a e) (λ o. refl) word (due_accepted y.answer) (λ o. refl) (λ o. refl) (λ o. refl))
+      (λ o m n. refl) (λ o m n. refl) (λ o m n. refl) (λ o m n. sym (ap (λ (c : Counted (Option (ℕ × Tick))). of_due c.answer) (same_value (sym e ∙ a.answer (lent_index ws b room o))) ∙ due_in_lem (next (index.model_of (lent ws b) b.index)) ∙ ap (λ (l : List ℕ). due_in (next (index.model_of l b.index))) (lent_is ws b room))))
 
   -- ---- the list's own
-  pub follow_touch : {k : ℕ} {ws' : List ℕ} {r : Touched} {u : Answer} → lru.Touching ws b.inner k ws' r → u ≡ of_told r.answer → Following ws b t (touch k) ws' (replying (with_list b r.lru) u)
+  pub follow_touch : {k : ℕ} {ws' : List ℕ} {l : FastLru} {r : Result Bool Refusal} {u : Answer} → lru.Touching ws b.inner k ws' l r → u ≡ tell (result_unwrap_or r false) → Following ws b t (touch k) ws' (replying (with_list b l) u)
   unfolding change_of stored_after expired_by answered bad_nanos model_of
-  follow_touch {k} {ws'} {r} a u =
-      rw u (follow ws b t (touch k) limits refl (acting (moved_list b r.lru a.capacity a.kept (to_front k) a.list a.model) (λ o. refl) word (told_accepted r.answer) (λ o. refl) (λ o. refl) (λ o. refl))
-      (λ o m n. refl) (λ o m n. refl) (λ o m n. refl) (λ o m n. sym (ap of_told (a.answer o.list) ∙ told_tell (list.has k (stored_of ws b)))))
+  follow_touch {k} {r = r} a u =
+      rw u (follow ws b t (touch k) limits refl (acting (moved_values {b = b} a) (λ o. refl) word (tell_accepted (result_unwrap_or r false)) (λ o. refl) (λ o. refl) (λ o. refl))
+      (λ o m n. refl) (λ o m n. refl) (λ o m n. refl) (λ o m n. sym (ap tell (said_changing {b = b} a false o))))
 
-  pub follow_rank : {k : ℕ} {r : Ranked} {u : Answer} → lru.Ranking ws b.inner k r → u ≡ rank_in r.answer → Following ws b t (recency_rank k) ws (replying b u)
+  pub follow_rank : {k : ℕ} {r : Result (Option ℕ) Refusal} {u : Answer} → lru.Ranking ws b.inner k r → u ≡ rank_in (result_unwrap_or r None) → Following ws b t (recency_rank k) ws (replying b u)
   unfolding change_of stored_after expired_by answered bad_nanos model_of
-  follow_rank {k} {r} a u = rw u (follow_same (recency_rank k) refl (λ m n. refl) (λ m n. refl) (λ m n. refl) (rank_accepted r.answer) (λ o m n. ap rank_in (sym (a.answer o.list))))
+  follow_rank {k} {r} a u = rw u (follow_same (recency_rank k) refl (λ m n. refl) (λ m n. refl) (λ m n. refl) (rank_accepted (result_unwrap_or r None)) (λ o m n. sym (ap rank_in (said_asking {b = b} a None o))))
 
-  pub follow_pop : {ws' : List ℕ} {r : Popped} {u : Answer} → lru.Popping ws b.inner ws' r → u ≡ of_oldest r.answer → Following ws b t pop_lru ws' (replying (with_list b r.lru) u)
+  pub follow_pop : {ws' : List ℕ} {l : FastLru} {r : Result (Option (ℕ × ℕ)) Refusal} {u : Answer} → lru.Popping ws b.inner ws' l r → u ≡ of_oldest (result_unwrap_or r None) → Following ws b t pop_lru ws' (replying (with_list b l) u)
   unfolding change_of stored_after expired_by answered bad_nanos model_of oldest_of
-  follow_pop {ws'} {r} a u =
-      rw u (follow ws b t pop_lru limits refl (acting (moved_list b r.lru a.capacity a.kept popped a.list a.model) (λ o. refl) word (oldest_accepted r.answer) (λ o. refl) (λ o. refl) (λ o. refl))
-      (λ o m n. refl) (λ o m n. refl) (λ o m n. refl) (λ o m n. sym (ap of_oldest (a.answer o.list) ∙ oldest_in (last (stored_of ws b)))))
+  follow_pop {r = r} a u =
+      rw u (follow ws b t pop_lru limits refl (acting (moved_values {b = b} a) (λ o. refl) word (oldest_accepted (result_unwrap_or r None)) (λ o. refl) (λ o. refl) (λ o. refl))
+      (λ o m n. refl) (λ o m n. refl) (λ o m n. refl) (λ o m n. sym (ap of_oldest (said_changing {b = b} a None o) ∙ oldest_in (last (stored_of ws b)))))
 
-  pub follow_oldest : {r : Oldest} {u : Answer} → lru.PeekingOldest ws b.inner r → u ≡ of_oldest r → Following ws b t peek_lru ws (replying b u)
+  pub follow_oldest : {r : Result (Option (ℕ × ℕ)) Refusal} {u : Answer} → lru.PeekingOldest ws b.inner r → u ≡ of_oldest (result_unwrap_or r None) → Following ws b t peek_lru ws (replying b u)
   unfolding change_of stored_after expired_by answered bad_nanos model_of oldest_of
-  follow_oldest {r} a u = rw u (follow_same peek_lru refl (λ m n. refl) (λ m n. refl) (λ m n. refl) (oldest_accepted r) (λ o m n. sym (ap of_oldest (a.answer o.list) ∙ oldest_in (last (stored_of ws b)))))
+  follow_oldest {r} a u = rw u (follow_same peek_lru refl (λ m n. refl) (λ m n. refl) (λ m n. refl) (oldest_accepted (result_unwrap_or r None)) (λ o m n. sym (ap of_oldest (said_asking {b = b} a None o) ∙ oldest_in (last (stored_of ws b)))))
 
   -- ---- `set_ttl`
   module _ (k : ℕ) (d : Duration) (i : is_duration d ≡ true) {s : Bool} (held : Stored ws b k s) where
@@ -259,19 +230,19 @@ module _ (ws : List ℕ) (b : Expiring) (t : Tick) (limits : book_limits (capaci
             follow ws b t (set_ttl k d) limits (rw i) (acting v (λ o. refl) word (tell_accepted false) (λ o. refl) (λ o. refl) (λ o. refl))
             (λ o m n. rw (sym (held.answer o), y, sym (x.answer o), z, eq-eqb (millis_of d) 0 q)) (λ o m n. rw (sym (held.answer o), y, sym (x.answer o), z, eq-eqb (millis_of d) 0 q)) (λ o m n. rw (sym (held.answer o), y, sym (x.answer o), z)) (λ o m n. rw (sym (held.answer o), y, sym (x.answer o), z, eq-eqb (millis_of d) 0 q))
 
-        module _ (q : millis_of d ≡ 0 → ⊥) {l : TtlTicks} (f : millis_of d ≡ l.0) {ws' : List ℕ} {b' : Expiring} {accepted : Bool} {n : ℕ} (a : Dating ws b k (deadline_from t l) ws' b' accepted n) where
+        module _ (q : millis_of d ≡ 0 → ⊥) {l : TtlTicks} (f : millis_of d ≡ l.0) {ws' : List ℕ} {b' : Expiring} {r : Result (Counted (Option Tick)) Refusal} (a : Dating ws b k (deadline_from t l) ws' b' r) where
           change : IsBook ws b → (m n : ℕ) → change_of t (set_ttl k d) (model_of ws b m n) ≡ set k (deadline_from t l)
           unfolding change_of model_of is_expired
           change o m n = rw (sym (held.answer o), y, sym (x.answer o), z, ne_eqb (millis_of d) 0 q, f)
 
-          pub follow_ttl_full : accepted ≡ false → Following ws b t (set_ttl k d) ws' (replying b (answers.Refused KeyLimitReached))
+          pub follow_ttl_full : {why : Refusal} → r ≡ Err why → Following ws b t (set_ttl k d) ws' (replying b' (answers.Refused why))
           unfolding stored_after expired_by answered bad_nanos model_of is_expired
-          follow_ttl_full u =
-              follow ws b t (set_ttl k d) limits (rw i) (acting_full ws b {s = stored_of ws b} {n = 0} {a = answers.Yes} (a.refused u) (unset_beyond a u)) change
+          follow_ttl_full {why} u =
+              follow ws b t (set_ttl k d) limits (rw i) (acting_full ws b {s = stored_of ws b} {n = 0} {a = answers.Yes} (a.only why u) (a.refused why u) (a.full why u)) change
               (λ o m n. rw (sym (held.answer o), y, sym (x.answer o), z, ne_eqb (millis_of d) 0 q)) (λ o m n. rw (sym (held.answer o), y, sym (x.answer o), z)) (λ o m n. rw (sym (held.answer o), y, sym (x.answer o), z, ne_eqb (millis_of d) 0 q))
 
-          pub follow_ttl_set : accepted ≡ true → Following ws b t (set_ttl k d) ws' (record { book = b'; answer = answers.Yes; discarded = n })
+          pub follow_ttl_set : {e : Counted (Option Tick)} → r ≡ Ok e → Following ws b t (set_ttl k d) ws' (record { book = b'; answer = answers.Yes; discarded = e.discarded })
           unfolding stored_after expired_by answered bad_nanos model_of is_expired
-          follow_ttl_set u =
-              follow ws b t (set_ttl k d) limits (rw i) (acting (a.moved u) (set_within a u) word (tell_accepted true) (λ o. refl) (λ o. refl) (λ o. refl)) change
+          follow_ttl_set {e} u =
+              follow ws b t (set_ttl k d) limits (rw i) (acting (a.moved e u) (a.free e u) word (tell_accepted true) (λ o. refl) (λ o. refl) (λ o. refl)) change
               (λ o m n. rw (sym (held.answer o), y, sym (x.answer o), z, ne_eqb (millis_of d) 0 q)) (λ o m n. rw (sym (held.answer o), y, sym (x.answer o), z)) (λ o m n. rw (sym (held.answer o), y, sym (x.answer o), z, ne_eqb (millis_of d) 0 q))

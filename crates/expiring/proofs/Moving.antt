@@ -1,23 +1,26 @@
 -- Steps on one part of a book, as the layer below promises them, and one step after another.
 use mathlib.Core.Path.{◌≡◌, refl, sym, ap, ◌∙◌}
 use mathlib.Core.List.{List}
-use Prim.Native.Nat.{ℕ, ◌-◌, ◌≤◌}
+use Prim.Native.Nat.{ℕ, ◌+◌, ◌-◌, ◌*◌, ◌≤◌}
 use native.Mathlib.Omega.{arith}
-use lib.ListN.{length}
+use lib.ListN.{length, length-drop}
+use borrow.Author.Tests.{ne_eqb, le-ltb}
 use lib.ListN as words
 use borrow.Rule.Slice.PartMut.{mid_of, put_mid}
-use Rattle.time.specs.declared.refusal.Outcome.{Outcome}
-use Rattle.lazy_heap_model.specs.Model.{Heap, removed, peeked, stale}
-use Rattle.lazy_heap.specs.Calls.{nothing}
+use Rattle.std.specs.Prelude.{Option, Result, Ok, IsOk, ⊤}
+use Rattle.limits.specs.Limits.{heap_limits}
+use Rattle.lazy_heap.specs.Answers.{outcome_of}
+use Rattle.time.specs.declared.tick.Tick.{Tick}
+use Rattle.time.specs.declared.refusal.Refusal.{Refusal}
+use Rattle.lazy_heap_model.specs.declared.counted.Counted.{Counted}
+use Rattle.lazy_heap_model.specs.Model.{Heap, surplus, stale}
 use Rattle.lazy_heap.specs.Words as heap
 use Rattle.fast_lru.specs.declared.lru.FastLru.{FastLru}
 use Rattle.fast_lru_model.specs.Model.{Items}
 use Rattle.fast_lru.specs.Lru as lru
 use Rattle.fast_lru.proofs.Laws as list
 use Rattle.expiration_index.specs.declared.index.ExpirationIndex.{ExpirationIndex}
-use Rattle.expiration_index.specs.declared.answers.Cleared.{Cleared}
 use Rattle.expiration_index.specs.Model.{Pairs}
-use Rattle.expiration_index.specs.Model as pairs
 use Rattle.expiration_index.specs.Index as index
 use Rattle.expiration_index.specs.Calls as calls
 use Rattle.expiring.specs.declared.expiring.Expiring.{Expiring}
@@ -25,6 +28,7 @@ use Rattle.expiring_model.specs.Model.{Change, keep, drop, drop_all, look, pairs
 use Rattle.expiring_model.specs.Discards.{discards, heap_after}
 use Rattle.expiring.specs.Book.{start, Room, capacity_of, limit_of, rest, IsBook, heap_of, Kept}
 use Rattle.expiring.specs.Steps.{with_list, with_index, deadlines_of, Moved, same}
+use Rattle.expiring.proofs.Limits.{same_value, never_refused}
 use Rattle.expiring.proofs.Frames.{rest_is, rest_back, rest_length, rest_before, rest_kept, kept_then, kept_list}
 
 -- ---- what keeps the deadlines
@@ -78,6 +82,18 @@ module _ (ws : List ℕ) (b : Expiring) (room : Room (length ws) (capacity_of b)
   pub lent_index : IsBook ws b → index.IsIndex (lent ws b) b.index
   lent_index o = rw lent_is o.index
 
+  -- there is room for the index behind a book's list
+  pub lent_limits : calls.limits_in (lent ws b) b.index ≡ Ok tt
+  unfolding heap_limits
+  lent_limits =
+      let d = limit_of b in
+      let size : 64 + 32 * d ≤ length (lent ws b) = omega (arith, ap length lent_is, length-drop (start (capacity_of b)) ws, room.words) in
+      rw (ne_eqb d 0 (λ q. omega (arith, room.some)), le-ltb 4096 d room.limit, le-ltb (length (lent ws b)) (64 + 32 * d) size)
+
+  -- so that it refuses nothing
+  pub lent_answers : {A : Type 0} (r : Result A Refusal) → outcome_of r ≡ calls.limits_in (lent ws b) b.index → IsOk r
+  lent_answers r e = never_refused r (e ∙ lent_limits)
+
   module _ {ys : List ℕ} (x : ExpirationIndex) (k : heap.Kept (limit_of b) (lent ws b) ys) where
     pub rest_index : rest (back ws b ys) (with_index b x) ≡ ys
     rest_index = rest_back ws (start (capacity_of b)) (room_start ws b room) ys k.size
@@ -106,34 +122,24 @@ module _ (ws : List ℕ) (b : Expiring) (room : Room (length ws) (capacity_of b)
     }
 
   -- as an index call has it
-  pub moved_call : (ch : Change) {told : Outcome} {after : Pairs → Pairs} {next : Heap → Heap} {count : Heap → ℕ} {ys : List ℕ} {x : ExpirationIndex} {d : ℕ} → calls.Call (lent ws b) b.index told after next count ys x d → ((l : Pairs) → after l ≡ pairs_after ch l) → ((h : Heap) → next h ≡ heap_after ch h) → ((h : Heap) → count h ≡ discards ch h) → Moved ws b ch same (back ws b ys) (with_index b x) d
-  moved_call ch {told} {after} {next} {count} {ys} {x} {d} k a n e =
+  pub moved_call : (ch : Change) {A : Type 0} {after : Pairs → Pairs} {next : Heap → Heap} {ys : List ℕ} {x : ExpirationIndex} {r : Result A Refusal} {d : ℕ} → calls.Call (lent ws b) b.index after next ys x r → ((l : Pairs) → after l ≡ pairs_after ch l) → ((h : Heap) → next h ≡ heap_after ch h) → (IsBook ws b → d ≡ discards ch (heap_of ws b)) → Moved ws b ch same (back ws b ys) (with_index b x) d
+  moved_call ch {A} {after} {next} {ys} {x} {r} {d} k a n e =
       let model = ap (λ (l : List ℕ). index.model_of l b.index) lent_is in
       let state = ap (λ (l : List ℕ). index.heap_of l b.index) lent_is in
-      moved_index x k.kept ch k.limit (λ o. k.index (lent_index o)) (λ o. k.model (lent_index o) ∙ a _ ∙ ap (pairs_after ch) model) (λ o. k.heap (lent_index o) ∙ n _ ∙ ap (heap_after ch) state) (λ o. k.discarded (lent_index o) ∙ e _ ∙ ap (discards ch) state)
+      moved_index x k.kept ch k.limit (λ o. k.index (lent_index o)) (λ o. k.model (lent_index o) ∙ a _ ∙ ap (pairs_after ch) model) (λ o. k.heap (lent_index o) ∙ n _ ∙ ap (heap_after ch) state) e
 
-  pub moved_drop : (k : ℕ) {told : Outcome} {ys : List ℕ} {x : ExpirationIndex} {d : ℕ} → calls.Call (lent ws b) b.index told (pairs.without k) (removed k) nothing ys x d → Moved ws b (drop k) same (back ws b ys) (with_index b x) 0
-  unfolding pairs_after heap_after discards
-  moved_drop k c = let m = moved_call (drop k) c (λ l. refl) (λ h. refl) (λ h. refl) in record {
-    capacity = m.capacity;
-    limit = m.limit;
-    lifetime = m.lifetime;
-    expirations = m.expirations;
-    book = m.book;
-    stored = m.stored;
-    deadlines = m.deadlines;
-    heap = m.heap;
-    discarded = λ o. refl;
-    kept = m.kept;
-  }
+  module _ {ys : List ℕ} {x : ExpirationIndex} where
+    pub moved_drop : {k : ℕ} {r : Result (Counted (Option Tick)) Refusal} → calls.Removing (lent ws b) b.index k ys x r → Moved ws b (drop k) same (back ws b ys) (with_index b x) 0
+    unfolding pairs_after heap_after discards
+    moved_drop {k} o = moved_call (drop k) o.call (λ l. refl) (λ h. refl) (λ is. refl)
 
-  pub moved_clear : {ys : List ℕ} {r : Cleared} → calls.Clearing (lent ws b) b.index ys r → Moved ws b drop_all same (back ws b ys) (with_index b r.index) r.discarded
-  unfolding pairs_after heap_after discards
-  moved_clear c = moved_call drop_all c (λ l. refl) (λ h. refl) (λ h. refl)
+    pub moved_clear : {r : Result ℕ Refusal} {n : ℕ} → calls.Clearing (lent ws b) b.index ys x r → r ≡ Ok n → Moved ws b drop_all same (back ws b ys) (with_index b x) n
+    unfolding pairs_after heap_after discards
+    moved_clear o e = moved_call drop_all o.call (λ l. refl) (λ h. refl) (λ is. same_value (sym e ∙ o.answer (lent_index is)) ∙ ap (λ (l : List ℕ). surplus (index.heap_of l b.index)) lent_is)
 
-  pub moved_look : {told : Outcome} {ys : List ℕ} {x : ExpirationIndex} {d : ℕ} → calls.Call (lent ws b) b.index told (λ l. l) peeked stale ys x d → Moved ws b look same (back ws b ys) (with_index b x) d
-  unfolding pairs_after heap_after discards
-  moved_look c = moved_call look c (λ l. refl) (λ h. refl) (λ h. refl)
+    pub moved_look : {r : Result (Counted (Option (ℕ × Tick))) Refusal} {n : Counted (Option (ℕ × Tick))} → calls.NextDeadline (lent ws b) b.index ys x r → r ≡ Ok n → Moved ws b look same (back ws b ys) (with_index b x) n.discarded
+    unfolding pairs_after heap_after discards
+    moved_look o e = moved_call look o.call (λ l. refl) (λ h. refl) (λ is. ap (λ (c : Counted (Option (ℕ × Tick))). c.discarded) (same_value (sym e ∙ o.answer (lent_index is))) ∙ ap (λ (l : List ℕ). stale (index.heap_of l b.index)) lent_is)
 
 -- ---- a step on the values and then one on the deadlines
 module _ {ws ws₁ ws₂ : List ℕ} {b b₁ b₂ : Expiring} {f : Items → Items} {ch : Change} {d : ℕ} where

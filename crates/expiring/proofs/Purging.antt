@@ -8,7 +8,7 @@ use mathlib.Core.List.Memᴰ.{cases_cons}
 use mathlib.Core.List.Memᴰ.{head}
 use mathlib.Core.List.Memᴰ.{not-nil}
 use mathlib.Core.List.Memᴰ.{tail}
-use mathlib.Core.Option.{Option, none, some}
+use Rattle.std.specs.Prelude.{Option, Some, None}
 use Prim.Native.Nat.{ℕ, ◌+◌, ◌<◌, ◌≤◌}
 use native.Mathlib.Omega.{arith}
 use lib.Dec.{eqb, ltb, leb}
@@ -19,8 +19,6 @@ use Rattle.time.specs.Deadline.{is_expired_at}
 use Rattle.binary_heap.specs.declared.entries.Entry.{Entry}
 use Rattle.rings.proofs.Counts.{by_eq}
 use Rattle.linked_hash_map.specs.declared.map.Record.{Record}
-use Rattle.linked_hash_map.specs.declared.map.Taken.{Taken}
-use Rattle.linked_hash_map.specs.declared.map.Taken.TheVariants as taken
 use Rattle.linked_hash_map.specs.Model as held
 use Rattle.lazy_heap_model.specs.Model.{Heap, entry_of, matches, live, stale_before, from_live, count_at_most, heap_len, peeked, popped, popped_from, stale}
 use Rattle.lazy_heap.specs.Valid.{Valid}
@@ -45,16 +43,16 @@ unfolding held.lookup held.without
 lookup_other k j other [] = refl
 lookup_other k j other (x ∷ l) = go (eqb x.key k) refl (lookup_other k j other l)
   where
-    go : (b : Bool) → eqb x.key k ≡ b → held.lookup j (held.without k l) ≡ held.lookup j l → held.lookup j (cond b (held.without k l) (x ∷ held.without k l)) ≡ cond (eqb x.key j) (taken.Record x) (held.lookup j l)
+    go : (b : Bool) → eqb x.key k ≡ b → held.lookup j (held.without k l) ≡ held.lookup j l → held.lookup j (cond b (held.without k l) (x ∷ held.without k l)) ≡ cond (eqb x.key j) (Some x) (held.lookup j l)
     go true e ih = rw (ne_eqb x.key j (λ q. other (sym q ∙ eqb-true x.key k e))) ih
-    go false e ih = ap (λ (o : Taken). cond (eqb x.key j) (taken.Record x) o) ih
+    go false e ih = ap (λ (o : Option Record). cond (eqb x.key j) (Some x) o) ih
 
-lookup_gone : (k : ℕ) (l : held.Model) → held.lookup k (held.without k l) ≡ taken.Nothing
+lookup_gone : (k : ℕ) (l : held.Model) → held.lookup k (held.without k l) ≡ None
 unfolding held.lookup held.without
 lookup_gone k [] = refl
 lookup_gone k (x ∷ l) = go (eqb x.key k) refl (lookup_gone k l)
   where
-    go : (b : Bool) → eqb x.key k ≡ b → held.lookup k (held.without k l) ≡ taken.Nothing → held.lookup k (cond b (held.without k l) (x ∷ held.without k l)) ≡ taken.Nothing
+    go : (b : Bool) → eqb x.key k ≡ b → held.lookup k (held.without k l) ≡ None → held.lookup k (cond b (held.without k l) (x ∷ held.without k l)) ≡ None
     go true e ih = ih
     go false e ih = rw e ih
 
@@ -64,7 +62,7 @@ live_other k l e other = rw (lookup_other k e.key other l)
 
 live_gone : (k : ℕ) (l : held.Model) (e : Entry) → e.key ≡ k → live (held.without k l) e ≡ false
 unfolding live
-live_gone k l e q = ap (λ (j : ℕ). matches (held.lookup j (held.without k l)) e) q ∙ ap (λ (o : Taken). matches o e) (lookup_gone k l)
+live_gone k l e q = ap (λ (j : ℕ). matches (held.lookup j (held.without k l)) e) q ∙ ap (λ (o : Option Record). matches o e) (lookup_gone k l)
 
 -- ---- the entries before the first live one that is not expired
 both_false : (b : Bool) → (b && false) ≡ false
@@ -176,7 +174,7 @@ module _ (t : Tick) where
     purged_accounts = from_length h.held h.entries
 
     -- with no next one expired, a purge discards what a look does
-    module _ (e : next_expired t (deadlines h) ≡ none) where
+    module _ (e : next_expired t (deadlines h) ≡ None) where
       later : (r : Record) → Memᴰ r h.held → ltb t.0 r.first ≡ true
       later = all_later h.held (expired_deadlines t h ∙ none_expired t (deadlines h) e)
 
@@ -196,13 +194,13 @@ module _ (t : Tick) where
       discards_none = before_stale h.held at_live h.entries
 
     -- else it discards the stale ones, takes the next due, and goes on from there
-    module _ (v : Valid h) {p : Pair} (e : next_expired t (deadlines h) ≡ some p) where
-      module _ (r : Record) (es : List Entry) (n : next (deadlines h) ≡ some (pair_of r)) (q : from_live h.held h.entries ≡ entry_of r ∷ es) where
+    module _ (v : Valid h) {p : Pair} (e : next_expired t (deadlines h) ≡ Some p) where
+      module _ (r : Record) (es : List Entry) (n : next (deadlines h) ≡ Some (pair_of r)) (q : from_live h.held h.entries ≡ entry_of r ∷ es) where
         expired : r.first ≤ t.0
         unfolding next_expired is_expired_at
         expired = go (leb r.first t.0) refl (ap (if_expired t) (sym n) ∙ e)
           where
-            go : (b : Bool) → leb r.first t.0 ≡ b → cond b (some (pair_of r)) none ≡ some p → r.first ≤ t.0
+            go : (b : Bool) → leb r.first t.0 ≡ b → cond b (Some (pair_of r)) None ≡ Some p → r.first ≤ t.0
             go true w s = leb-true r.first t.0 w
             go false w s = absurd (let z : ◌≡◌ {A = ℕ} 0 1 = cc in omega arith)
 
@@ -211,7 +209,7 @@ module _ (t : Tick) where
         early x m k =
             let o = live_held h.held (entry_of r) (first_live h.held h.entries (entry_of r) es q) in
             let a : x.key ≡ o.0.key = k ∙ ap (λ (y : Entry). y.key) (sym o.1.1) in
-            let w : taken.Record x ≡ taken.Record o.0 = sym (lookup_mem h.held v.keys x m) ∙ ap (λ (j : ℕ). held.lookup j h.held) a ∙ lookup_mem h.held v.keys o.0 o.1.0 in
+            let w : Some x ≡ Some o.0 = sym (lookup_mem h.held v.keys x m) ∙ ap (λ (j : ℕ). held.lookup j h.held) a ∙ lookup_mem h.held v.keys o.0 o.1.0 in
             let s : x ≡ o.0 = cc in
             let f : x.first ≡ r.first = ap (λ (y : Record). y.first) s ∙ ap (λ (y : Entry). y.score) o.1.1 in
             le-ltb t.0 x.first (omega (arith, expired))
@@ -250,9 +248,9 @@ module _ (t : Tick) where
         unfolding discards
         discards_rest = before_rest
 
-      nothing_next : next (deadlines h) ≡ none → ⊥
+      nothing_next : next (deadlines h) ≡ None → ⊥
       unfolding next_expired
-      nothing_next n = let w : none ≡ some p = ap (if_expired t) (sym n) ∙ e in let z : ◌≡◌ {A = ℕ} 0 1 = cc in omega arith
+      nothing_next n = let w : None ≡ Some p = ap (if_expired t) (sym n) ∙ e in let z : ◌≡◌ {A = ℕ} 0 1 = cc in omega arith
 
       pub purged_some : heap_after (drop_expired t) h ≡ heap_after (drop_expired t) (popped h)
       unfolding popped
@@ -333,7 +331,7 @@ module _ (t : Tick) where
   expired_few l = omega (arith, unexpired_length l)
 
   -- with no next one expired, nothing is to be done
-  module _ (l : Pairs) (e : next_expired t l ≡ none) where
+  module _ (l : Pairs) (e : next_expired t l ≡ None) where
     pub count_none : expired_count t l ≡ 0
     count_none = none_expired t l e
 
@@ -345,7 +343,7 @@ module _ (t : Tick) where
     stored_none s = stored_all s l count_none
 
   -- else the next one's pair and value go, and the rest is left to do
-  module _ (l : Pairs) (d : Distinct l) {p : Pair} (e : next_expired t l ≡ some p) where
+  module _ (l : Pairs) (d : Distinct l) {p : Pair} (e : next_expired t l ≡ Some p) where
     pub taken_is : pairs.without_expired t l ≡ pairs.without p.key l
     unfolding pairs.without_expired
     taken_is = ap (λ (o : Option Pair). less o l) e

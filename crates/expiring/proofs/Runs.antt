@@ -4,13 +4,13 @@ use mathlib.Core.List.{List}
 use Prim.Native.Nat.{ℕ, ◌+◌}
 use native.Mathlib.Omega.{arith}
 use Rattle.time.specs.declared.tick.Tick.{Tick}
-use Rattle.time.specs.declared.refusal.Outcome.TheVariants.{Done}
+use Rattle.std.specs.Prelude.{Option, Result, Ok}
+use Rattle.time.specs.declared.duration.Duration.{Duration}
 use Rattle.lazy_heap_model.specs.Model.{heap_len, opened}
 use Rattle.expiring_model.specs.declared.answers.Answer.{Answer}
 use Rattle.expiring.specs.declared.answers.Reply.{Reply}
 use Rattle.expiring.specs.declared.expiring.Expiring.{Expiring}
-use Rattle.expiring.specs.declared.expiring.Opened.{Opened}
-use Rattle.expiring_model.specs.declared.lifetimes.DefaultDuration.{DefaultDuration}
+use Rattle.time.specs.declared.refusal.Refusal.{Refusal}
 use Rattle.expiring_model.specs.Model.{Book, Call, fresh, answer_of, book_after}
 use Rattle.expiring.specs.Book.{IsBook, heap_of, model_of}
 use Rattle.expiring.specs.Calls.{Following, Opening}
@@ -52,13 +52,13 @@ follow p is e (more {t = t} {c = c} {r = r} {cs = cs} {n = n} o run) =
     }
 
 -- ---- demand 3
-pub as_the_model : {ws ws₁ ws' : List ℕ} {c d s : ℕ} {l : DefaultDuration} {r : Opened} {b : Expiring} {cs : Calls} {told : List Answer} {n : ℕ} → Opening ws c d s l ws₁ r → r.outcome ≡ Done → Run ws₁ r.book cs told n ws' b → AsTheModel (fresh c d (default_of l)) cs told n ws' b
+pub as_the_model : {ws ws₁ ws' : List ℕ} {c d s : ℕ} {l : Option Duration} {r : Result Expiring Refusal} {b b' : Expiring} {cs : Calls} {told : List Answer} {n : ℕ} → Opening ws c d s l ws₁ r → r ≡ Ok b → Run ws₁ b cs told n ws' b' → AsTheModel (fresh c d (default_of l)) cs told n ws' b'
 unfolding fresh opened
-as_the_model {c = c} {d = d} {l = l} o done run =
-    let f = follow (fresh c d (default_of l)) (o.book done) (o.model done) run in
+as_the_model {c = c} {d = d} {l = l} {b = b} o done run =
+    let f = follow (fresh c d (default_of l)) (o.book b done) (o.model b done) run in
     record {
       answers = f.answers;
       model = f.model;
       book = f.book;
-      sum = omega (arith, f.sum, ap heap_len (o.heap done));
+      sum = omega (arith, f.sum, ap heap_len (o.heap b done));
     }

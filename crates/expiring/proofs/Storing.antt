@@ -9,8 +9,8 @@ use Rattle.fast_lru.specs.declared.lru.FastLru.{FastLru}
 use Rattle.lazy_heap.specs.declared.heap.LazyMinHeap.{LazyMinHeap}
 use Rattle.lazy_heap.specs.Calls as heap
 use Rattle.expiration_index.specs.declared.index.ExpirationIndex.{ExpirationIndex}
-use Rattle.expiring_model.specs.declared.lifetimes.DefaultTtl.{DefaultTtl}
-use Rattle.expiring_model.specs.declared.lifetimes.DefaultTtl.TheVariants as default
+use Rattle.std.specs.Prelude.{Option, Some, None}
+use Rattle.time.specs.declared.duration.TtlTicks.{TtlTicks}
 use Rattle.expiring.specs.declared.expiring.Expiring.{Expiring}
 use Rattle.expiring.specs.Numbers.{index_in, default_in, book_in, given_of, ticks_of, with_lru, with_deadlines, with_held, with_expiration, with_changed, with_book}
 use Rattle.expiring.specs.Changes.{Stay}
@@ -65,9 +65,9 @@ expiration_stored ns h = go (as_twelve ns h)
     go : {ns : List ℕ} → Twelve ns → book_in (with_expiration ns) ≡ with_expired (book_in ns) 1
     go (twelve ns) = refl
 
-default_stored : (l : DefaultTtl) → default_in (given_of l) (ticks_of l) ≡ l
-default_stored default.Nothing = refl
-default_stored (default.Of l) = refl
+default_stored : (l : Option TtlTicks) → default_in (given_of l) (ticks_of l) ≡ l
+default_stored None = refl
+default_stored (Some l) = refl
 
 pub book_stored : (ns : List ℕ) (b : Expiring) → 12 ≤ length ns → book_in (with_book ns b) ≡ b
 unfolding with_book with_changed with_lru with_deadlines

@@ -1,10 +1,9 @@
 -- The book's numbers in words: the list's three, the index's six, the default lifetime and the expirations.
-use Rattle.std.specs.Prelude.{cond, List, ℕ, ◌+◌, ◌-◌, ◌^◌, min, eqb, get_or, set}
+use Rattle.std.specs.Prelude.{cond, List, ℕ, ◌+◌, ◌-◌, ◌^◌, min, eqb, get_or, set, Option, Some, None}
+use Rattle.time.specs.declared.duration.TtlTicks.{TtlTicks}
 use Rattle.fast_lru.specs.declared.lru.FastLru.{FastLru}
 use Rattle.expiration_index.specs.declared.index.ExpirationIndex.{ExpirationIndex}
 use Rattle.expiring.specs.declared.expiring.Expiring.{Expiring}
-use Rattle.expiring_model.specs.declared.lifetimes.DefaultTtl.{DefaultTtl}
-use Rattle.expiring_model.specs.declared.lifetimes.DefaultTtl.TheVariants as default
 
 -- ---- read
 abbrev pub lru_in : List ℕ → FastLru
@@ -14,20 +13,20 @@ abbrev pub index_in : List ℕ → ExpirationIndex
 index_in ns = record { heap = record { scores = record { capacity = get_or ns 3 0; len = get_or ns 4 0; refill_in = get_or ns 5 0 }; entries = get_or ns 6 0; seq = get_or ns 7 0; factor = get_or ns 8 0 } }
 
 -- whether there is one, and its ticks
-abbrev pub default_in : ℕ → ℕ → DefaultTtl
-default_in given ticks = cond (eqb given 0) default.Nothing (default.Of (record { 0 = ticks }))
+abbrev pub default_in : ℕ → ℕ → Option TtlTicks
+default_in given ticks = cond (eqb given 0) None (Some (record { 0 = ticks }))
 
 abbrev pub book_in : List ℕ → Expiring
 book_in ns = record { inner = lru_in ns; index = index_in ns; default_ttl = default_in (get_or ns 9 0) (get_or ns 10 0); expirations = get_or ns 11 0 }
 
 -- ---- written
-abbrev pub given_of : DefaultTtl → ℕ
-given_of default.Nothing = 0
-given_of (default.Of l) = 1
+abbrev pub given_of : Option TtlTicks → ℕ
+given_of None = 0
+given_of (Some l) = 1
 
-abbrev pub ticks_of : DefaultTtl → ℕ
-ticks_of default.Nothing = 0
-ticks_of (default.Of l) = l.0
+abbrev pub ticks_of : Option TtlTicks → ℕ
+ticks_of None = 0
+ticks_of (Some l) = l.0
 
 -- what a call may change of the list's numbers, and of the index's: not the capacity, nor the limit
 unfoldable pub with_lru : List ℕ → FastLru → List ℕ

@@ -1,21 +1,19 @@
 -- What the private steps promise: which part of the book they change, and how.
-use Rattle.std.specs.Prelude.{◌≡◌, Bool, true, false, cond, not, List, ℕ, ◌+◌, ◌-◌, ◌^◌, min, length}
-use Rattle.std.proofs.Math.Option.{Option, none, some}
+use Rattle.std.specs.Prelude.{◌≡◌, Bool, true, false, cond, List, ℕ, ◌+◌, ◌-◌, ◌^◌, min, length, Option, Some, None, is_some, Result, Ok, Err}
+use Rattle.std.specs.Option.{option_map, option_transpose}
 use Rattle.time.specs.declared.tick.Tick.{Tick}
-use Rattle.time.specs.declared.duration.Ticked.{Ticked}
-use Rattle.time.specs.declared.duration.Ticked.TheVariants as ticked
+use Rattle.time.specs.declared.duration.Duration.{Duration}
+use Rattle.time.specs.declared.duration.TtlTicks.{TtlTicks}
 use Rattle.time.specs.declared.refusal.Refusal.{Refusal}
 use Rattle.time.specs.declared.refusal.Refusal.TheVariants.{KeyLimitReached}
-use Rattle.time.specs.declared.refusal.Outcome.TheVariants.{Done}
 use Rattle.time.specs.Duration.{ticks_of}
+use Rattle.lazy_heap_model.specs.declared.counted.Counted.{Counted}
 use Rattle.lazy_heap_model.specs.Model.{opened, stale}
 use Rattle.fast_lru.specs.declared.lru.FastLru.{FastLru}
-use Rattle.fast_lru_model.specs.declared.answers.Found.{Found}
 use Rattle.fast_lru_model.specs.Model.{Items, inserted}
 use Rattle.fast_lru_model.specs.Model as list
 use Rattle.fast_lru.specs.Lru as lru
 use Rattle.expiration_index.specs.declared.index.ExpirationIndex.{ExpirationIndex}
-use Rattle.expiration_index.specs.declared.answers.Deadline.{Deadline}
 use Rattle.expiration_index.specs.Model.{Pair, Pairs, is_full, expired_count, deadline_of, next_expired}
 use Rattle.expiration_index.specs.Model as pairs
 use Rattle.expiration_index.specs.Index as index
@@ -25,26 +23,13 @@ use Rattle.expiring_model.specs.declared.answers.Answer.TheVariants as answers
 use Rattle.expiring_answers.specs.Answers.{of_found, come_by}
 use Rattle.expiring.specs.declared.answers.Reply.{Reply}
 use Rattle.expiring.specs.declared.expiring.Expiring.{Expiring}
-use Rattle.expiring.specs.declared.expiring.Opened as expiring
-use Rattle.expiring.specs.declared.expiring.Popped.{Popped}
-use Rattle.expiring.specs.declared.expiring.Defaulted.{Defaulted}
-use Rattle.expiring.specs.declared.expiring.Defaulted.TheVariants as defaulted
-use Rattle.expiring_model.specs.declared.lifetimes.DefaultTtl.{DefaultTtl}
-use Rattle.expiring_model.specs.declared.lifetimes.DefaultTtl.TheVariants as default
-use Rattle.expiring_model.specs.declared.lifetimes.DefaultDuration.{DefaultDuration}
-use Rattle.expiring_model.specs.declared.lifetimes.DefaultDuration.TheVariants as asked
-use Rattle.expiring_model.specs.Model.{Change, keep, set, drop, drop_expired, drop_all, look, fresh, pairs_after, has_come, value_in}
+use Rattle.expiring_model.specs.Model.{Change, keep, set, drop, drop_expired, drop_all, look, pairs_after, has_come, value_in, fresh}
 use Rattle.expiring_model.specs.Discards.{discards, heap_after}
 use Rattle.expiring.specs.Book.{capacity_of, limit_of, rest, IsBook, heap_of, model_of, Kept}
 
 -- ---- an opening
-abbrev pub by_ticks : Ticked → Defaulted
-by_ticks (ticked.Ticks l) = defaulted.To (default.Of l)
-by_ticks (ticked.Refused why) = defaulted.Refused why
-
-abbrev pub defaulted_by : DefaultDuration → Defaulted
-defaulted_by (asked.Of d) = by_ticks (ticks_of d)
-defaulted_by asked.Nothing = defaulted.To default.Nothing
+abbrev pub defaulted_by : Option Duration → Result (Option TtlTicks) Refusal
+defaulted_by l = option_transpose (option_map ticks_of l)
 
 -- ---- the numbers
 -- "expirations (stops at u64::MAX)"
@@ -70,7 +55,7 @@ stored_of ws b = lru.model_of ws b.inner
 abbrev pub deadlines_of : List ℕ → Expiring → Pairs
 deadlines_of ws b = index.model_of (rest ws b) b.index
 
-pub record DeadlineOf (ws : List ℕ) (b : Expiring) (k : ℕ) (r : Deadline) : Type 0 where
+pub record DeadlineOf (ws : List ℕ) (b : Expiring) (k : ℕ) (r : Option Tick) : Type 0 where
   pub answer : IsBook ws b → r ≡ deadline_of k (deadlines_of ws b)
 
 pub record Expired (ws : List ℕ) (b : Expiring) (t : Tick) (k : ℕ) (r : Bool) : Type 0 where
@@ -102,11 +87,14 @@ pub record Moved (ws : List ℕ) (b : Expiring) (ch : Change) (f : Items → Ite
 abbrev pub same : Items → Items
 same s = s
 
--- `set_deadline`: as many keys as the limit may hold one; the book after it, whether it was set, and how many entries were discarded
-pub record Dating (ws : List ℕ) (b : Expiring) (k : ℕ) (t : Tick) (ws' : List ℕ) (b' : Expiring) (accepted : Bool) (n : ℕ) : Type 0 where
-  pub answer : IsBook ws b → accepted ≡ not (is_full (limit_of b) k (deadlines_of ws b))
-  pub refused : accepted ≡ false → ws' ≡ ws
-  pub moved : accepted ≡ true → Moved ws b (set k t) same ws' b' n
+-- `set_deadline`: as many keys as the limit may hold one. It answers the deadline that the key had.
+pub record Dating (ws : List ℕ) (b : Expiring) (k : ℕ) (t : Tick) (ws' : List ℕ) (b' : Expiring) (r : Result (Counted (Option Tick)) Refusal) : Type 0 where
+  pub only : (why : Refusal) → r ≡ Err why → why ≡ KeyLimitReached
+  pub refused : (why : Refusal) → r ≡ Err why → (b' ≡ b) × (ws' ≡ ws)
+  pub full : (why : Refusal) → r ≡ Err why → IsBook ws b → is_full (limit_of b) k (deadlines_of ws b) ≡ true
+  pub free : (x : Counted (Option Tick)) → r ≡ Ok x → IsBook ws b → is_full (limit_of b) k (deadlines_of ws b) ≡ false
+  pub moved : (x : Counted (Option Tick)) → r ≡ Ok x → Moved ws b (set k t) same ws' b' x.discarded
+  pub held : (x : Counted (Option Tick)) → r ≡ Ok x → DeadlineOf ws b k x.answer
 
 -- an insert, of the values
 abbrev pub putting : Expiring → ℕ → ℕ → Items → Items
@@ -149,7 +137,7 @@ pub record Acting (ws : List ℕ) (b : Expiring) (ch : Change) (s : Items) (n : 
   pub kept : Kept (capacity_of b) (limit_of b) ws ws'
 
 -- `concluded`: the answer is what the list found of a key, unless the key's old deadline had come
-abbrev pub concluding : Expiring → Found → Deadline → Tick → ℕ → Reply
+abbrev pub concluding : Expiring → Option ℕ → Option Tick → Tick → ℕ → Reply
 concluding b f old t d = cond (come_by old t) (record { book = with_expired b 1; answer = answers.Nothing; discarded = d }) (record { book = b; answer = of_found f; discarded = d })
 
 -- `insert_until` and `insert_forever`
@@ -160,26 +148,22 @@ Inserting ws b t k v ch ws' r = Acting ws b ch (putting b k v (stored_of ws b)) 
 abbrev pub Removing : List ℕ → Expiring → Tick → ℕ → List ℕ → Reply → Type 0
 Removing ws b t k ws' r = Acting ws b (drop k) (list.without k (stored_of ws b)) (cond (expired_in ws b t k) 1 0) (unless (expired_in ws b t k) (value_of ws b k)) ws' r
 
-abbrev pub is_some : Option Pair → Bool
-is_some none = false
-is_some (some p) = true
-
 abbrev pub less_value : Option Pair → Items → Items
-less_value none s = s
-less_value (some p) s = list.without p.key s
+less_value None s = s
+less_value (Some p) s = list.without p.key s
 
--- `pop_expired`
-pub record PoppingExpired (ws : List ℕ) (b : Expiring) (t : Tick) (ws' : List ℕ) (r : Popped) : Type 0 where
-  pub capacity : capacity_of r.book ≡ capacity_of b
-  pub limit : limit_of r.book ≡ limit_of b
-  pub lifetime : r.book.default_ttl ≡ b.default_ttl
-  pub expirations : r.book.expirations ≡ b.expirations
-  pub book : IsBook ws b → IsBook ws' r.book
-  pub popped : IsBook ws b → r.is_popped ≡ is_some (next_expired t (deadlines_of ws b))
-  pub stored : IsBook ws b → stored_of ws' r.book ≡ less_value (next_expired t (deadlines_of ws b)) (stored_of ws b)
-  pub deadlines : IsBook ws b → deadlines_of ws' r.book ≡ pairs.without_expired t (deadlines_of ws b)
-  pub heap : IsBook ws b → heap_of ws' r.book ≡ popped_expired t (heap_of ws b)
-  pub stale : IsBook ws b → r.stale ≡ stale (heap_of ws b)
+-- `pop_expired`: whether there was one, and how many stale entries were discarded
+pub record PoppingExpired (ws : List ℕ) (b : Expiring) (t : Tick) (ws' : List ℕ) (b' : Expiring) (r : Counted Bool) : Type 0 where
+  pub capacity : capacity_of b' ≡ capacity_of b
+  pub limit : limit_of b' ≡ limit_of b
+  pub lifetime : b'.default_ttl ≡ b.default_ttl
+  pub expirations : b'.expirations ≡ b.expirations
+  pub book : IsBook ws b → IsBook ws' b'
+  pub popped : IsBook ws b → r.answer ≡ is_some (next_expired t (deadlines_of ws b))
+  pub stored : IsBook ws b → stored_of ws' b' ≡ less_value (next_expired t (deadlines_of ws b)) (stored_of ws b)
+  pub deadlines : IsBook ws b → deadlines_of ws' b' ≡ pairs.without_expired t (deadlines_of ws b)
+  pub heap : IsBook ws b → heap_of ws' b' ≡ popped_expired t (heap_of ws b)
+  pub stale : IsBook ws b → r.discarded ≡ stale (heap_of ws b)
   pub kept : Kept (capacity_of b) (limit_of b) ws ws'
 
 -- `purged`
@@ -187,9 +171,8 @@ abbrev pub purging : Expiring → ℕ → ℕ → Reply
 purging b n stale = record { book = with_expired b n; answer = answers.Count n; discarded = saturating_sum n stale }
 
 -- `open_within`
-pub record Opened (ws : List ℕ) (c d s : ℕ) (l : DefaultTtl) (ws' : List ℕ) (r : expiring.Opened) : Type 0 where
-  pub outcome : r.outcome ≡ Done
-  pub book : IsBook ws' r.book
-  pub model : model_of ws' r.book 0 0 ≡ fresh c d l
-  pub heap : heap_of ws' r.book ≡ opened d index.factor s
+pub record Opened (ws : List ℕ) (c d s : ℕ) (l : Option TtlTicks) (ws' : List ℕ) (b : Expiring) : Type 0 where
+  pub book : IsBook ws' b
+  pub model : model_of ws' b 0 0 ≡ fresh c d l
+  pub heap : heap_of ws' b ≡ opened d index.factor s
   pub kept : Kept c d ws ws'

@@ -1,136 +1,63 @@
 // The book's calls.
-ghost use Rattle.std.specs.Prelude.{◌≡◌, length};
-ghost use Rattle.time.specs.declared.refusal.Outcome.TheVariants.{Refused};
+ghost use Rattle.std.specs.Prelude.{◌≡◌, List, ℕ, length};
+ghost use Rattle.time.specs.declared.tick.Tick.{Tick};
 ghost use Rattle.limits.specs.Limits.{book_limits};
 ghost use Rattle.expiring_model.specs.declared.answers.Answer.TheVariants as answers;
-ghost use Rattle.expiring_model.specs.Model.{contains, peek, get, insert, remove, clear, insert_with_ttl, ttl_status, set_ttl, purge_expired, live_len, expirations, next_deadline, touch, recency_rank, pop_lru, peek_lru, drop_all};
+ghost use Rattle.expiring_model.specs.Model.{Call, contains, peek, get, insert, remove, clear, insert_with_ttl, ttl_status, set_ttl, purge_expired, live_len, expirations, next_deadline, touch, recency_rank, pop_lru, peek_lru, drop_all};
 ghost use Rattle.expiring.specs.Book.{Room, capacity_of, limit_of};
-ghost use Rattle.expiring.specs.Calls.{no_book, Following, Opening, Checking, DeadlinesHeld, HeapLength};
-ghost use Rattle.expiring.specs.Steps.{defaulted_by, saturating_sum, with_list, with_index, with_expired, replying, purging, DeadlineOf, Expired, Stored, StoredCount, ExpiredCount, Moved, same, PoppingExpired};
-ghost use Rattle.expiring.specs.Steps as steps;
+ghost use Rattle.expiring.specs.Calls.{Following, Opening, Checking, DeadlinesHeld, HeapLength};
+ghost use Rattle.expiring.specs.Changes.{Changing};
+ghost use Rattle.expiring.specs.Steps.{defaulted_by, with_expired, replying, purging, DeadlineOf, Expired, Stored, StoredCount, ExpiredCount, Moved, same, PoppingExpired, Opened};
 
 pub mod changes;
 
 use crate::answers::Reply;
 use crate::numbers;
-use expiration_index::{Deadline, Due, ExpirationIndex};
+use expiration_index::ExpirationIndex;
 use expiring_answers::{has_come, of_due, of_found, of_oldest, of_rank, of_told, status_of};
-use expiring_model::{Answer, DefaultDuration, DefaultTtl};
+use expiring_model::Answer;
 use fast_lru::FastLru;
-use fast_lru_model::{Count, Told};
-use lazy_heap::LazyMinHeap;
-use linked_hash_map::LinkedHashMap;
-use time::{Duration, Outcome, Refusal, Tick, Ticked};
+use lazy_heap_model::Counted;
+use time::{Duration, Refusal, Tick, TtlTicks};
 
-// The book's numbers; all else is in the words. Those of a refused opening are all 0.
-#[derive(Clone, Copy)]
+// The book's numbers; all else is in the words. A caller that keeps numbers keeps those of `default`, all 0 and no default lifetime,
+// where an opening is refused.
+#[derive(Clone, Copy, Default)]
 pub struct Expiring {
     pub inner: FastLru,
     pub index: ExpirationIndex,
-    pub default_ttl: DefaultTtl,
+    pub default_ttl: Option<TtlTicks>,
     pub expirations: u64,
 }
 
-#[derive(Clone, Copy)]
-pub struct Opened {
-    pub book: Expiring,
-    pub outcome: Outcome,
-}
-
-// A book after its deadlines were dropped, and how many entries of the heap were discarded.
-#[derive(Clone, Copy)]
-struct Undated {
-    book: Expiring,
-    discarded: usize,
-}
-
-// A book after a look at its next due, whether that was expired and taken out, and how many stale entries were discarded.
-#[derive(Clone, Copy)]
-struct Popped {
-    book: Expiring,
-    is_popped: bool,
-    stale: u64,
-}
-
-fn saturating_sum(a: u64, b: u64) -> u64
-    ensures { result ≡ saturating_sum a b }
+// The default lifetime in ticks, where there is one.
+fn default_of(default_ttl: Option<Duration>) -> Result<Option<TtlTicks>, Refusal>
+    ensures { result ≡ defaulted_by default_ttl }
 {
-    if a <= u64::MAX - b { a + b } else { u64::MAX }
+    default_ttl
+        .map(|ttl| time::duration_to_ticks(ttl))
+        .transpose()
 }
 
-// A default lifetime in ticks.
-#[derive(Clone, Copy)]
-enum Defaulted {
-    To(DefaultTtl),
-    Refused(Refusal),
-}
-
-fn default_of(duration: DefaultDuration) -> Defaulted
-    ensures { result ≡ defaulted_by duration }
-{
-    match duration {
-        DefaultDuration::Of(d) => match time::duration_to_ticks(d) {
-            Ticked::Ticks(ttl) => Defaulted::To(DefaultTtl::Of(ttl)),
-            Ticked::Refused(why) => Defaulted::Refused(why),
-        },
-        DefaultDuration::Nothing => Defaulted::To(DefaultTtl::Nothing),
-    }
-}
-
-fn refused_opening(why: Refusal) -> Opened
-    ensures { result ≡ record { book = no_book; outcome = Refused why } }
-{
-    Opened {
-        book: Expiring {
-            inner: FastLru {
-                map: LinkedHashMap {
-                    capacity: 0,
-                    len: 0,
-                    refill_in: 0,
-                },
-            },
-            index: ExpirationIndex {
-                heap: LazyMinHeap {
-                    scores: LinkedHashMap {
-                        capacity: 0,
-                        len: 0,
-                        refill_in: 0,
-                    },
-                    entries: 0,
-                    seq: 0,
-                    factor: 0,
-                },
-            },
-            default_ttl: DefaultTtl::Nothing,
-            expirations: 0,
-        },
-        outcome: Outcome::Refused(why),
-    }
-}
-
+// A fresh list, and a fresh index in the words behind it.
 fn open_within(
     words: &mut [u64],
     capacity: usize,
     limit: usize,
     seq: u64,
-    default_ttl: DefaultTtl,
-) -> Opened
+    default_ttl: Option<TtlTicks>,
+) -> Expiring
     requires { Room (length words.old) capacity limit }
-    ensures { steps.Opened words.old capacity limit seq default_ttl words.new result }
+    ensures { Opened words.old capacity limit seq default_ttl words.new result }
 {
-    let list = FastLru::new(words, capacity);
+    let inner = FastLru::new(words, capacity).unwrap();
     let start = 64 + 8 * capacity;
-    let deadlines = ExpirationIndex::open(&mut words[start..], limit, seq);
-    let inner = list.lru;
-    let index = deadlines.index;
-    Opened {
-        book: Expiring {
-            inner,
-            index,
-            default_ttl,
-            expirations: 0,
-        },
-        outcome: Outcome::Done,
+    let index = ExpirationIndex::open(&mut words[start..], limit, seq).unwrap();
+    Expiring {
+        inner,
+        index,
+        default_ttl,
+        expirations: 0,
     }
 }
 
@@ -143,17 +70,13 @@ impl Expiring {
         capacity: usize,
         limit: usize,
         seq: u64,
-        default_ttl: DefaultDuration,
-    ) -> Opened
+        default_ttl: Option<Duration>,
+    ) -> Result<Expiring, Refusal>
         ensures { Opening words.old capacity limit seq default_ttl words.new result }
     {
-        match limits::book(capacity, limit, words.len()) {
-            Outcome::Refused(why) => refused_opening(why),
-            Outcome::Done => match default_of(default_ttl) {
-                Defaulted::Refused(why) => refused_opening(why),
-                Defaulted::To(default_ttl) => open_within(words, capacity, limit, seq, default_ttl),
-            },
-        }
+        limits::book(capacity, limit, words.len())?;
+        let default_ttl = default_of(default_ttl)?;
+        Ok(open_within(words, capacity, limit, seq, default_ttl))
     }
 
     // ---- what is stored
@@ -161,59 +84,53 @@ impl Expiring {
     pub fn contains(self, words: &[u64], tick: Tick, key: u64) -> Reply
         ensures { Following words.now self tick (contains key) words.now result }
     {
-        match self.limits(words.len()) {
-            Outcome::Refused(why) => self.refused(why),
-            Outcome::Done => {
-                if self.is_expired(words, tick, key) {
-                    return self.answered(Answer::No);
-                }
-                self.answered(of_told(self.inner.contains(words, key)))
-            }
+        if let Err(why) = self.limits(words.len()) {
+            return self.refused(why);
         }
+        if self.is_expired(words, tick, key) {
+            return self.answered(Answer::No);
+        }
+        self.answered(of_told(self.is_stored(words, key)))
     }
 
     // It moves nothing.
     pub fn peek(self, words: &[u64], tick: Tick, key: u64) -> Reply
         ensures { Following words.now self tick (peek key) words.now result }
     {
-        match self.limits(words.len()) {
-            Outcome::Refused(why) => self.refused(why),
-            Outcome::Done => {
-                if self.is_expired(words, tick, key) {
-                    return self.answered(Answer::Nothing);
-                }
-                self.answered(of_found(self.inner.peek(words, key)))
-            }
+        if let Err(why) = self.limits(words.len()) {
+            return self.refused(why);
         }
+        if self.is_expired(words, tick, key) {
+            return self.answered(Answer::Nothing);
+        }
+        let found = self.inner.peek(words, key);
+        self.answered(of_found(found.unwrap_or(None)))
     }
 
     // It moves the key to the front; an expired one it removes.
     pub fn get(self, words: &mut [u64], tick: Tick, key: u64) -> Reply
         ensures { Following words.old self tick (get key) words.new result }
     {
-        let mut numbers = [0u64; 12];
-        numbers::store_book(&mut numbers, self);
-        let said = changes::get(&mut numbers, words, tick, key);
-        changes::reply_in(&numbers, said)
+        self.on_numbers(words, |numbers, words| {
+            changes::get(numbers, words, tick, key)
+        })
     }
 
     pub fn remove(self, words: &mut [u64], tick: Tick, key: u64) -> Reply
         ensures { Following words.old self tick (remove key) words.new result }
     {
-        let mut numbers = [0u64; 12];
-        numbers::store_book(&mut numbers, self);
-        let said = changes::remove(&mut numbers, words, tick, key);
-        changes::reply_in(&numbers, said)
+        self.on_numbers(words, |numbers, words| {
+            changes::remove(numbers, words, tick, key)
+        })
     }
 
     // With the default lifetime, or with none.
     pub fn insert(self, words: &mut [u64], tick: Tick, key: u64, value: u64) -> Reply
         ensures { Following words.old self tick (insert key value) words.new result }
     {
-        let mut numbers = [0u64; 12];
-        numbers::store_book(&mut numbers, self);
-        let said = changes::insert(&mut numbers, words, tick, key, value);
-        changes::reply_in(&numbers, said)
+        self.on_numbers(words, |numbers, words| {
+            changes::insert(numbers, words, tick, key, value)
+        })
     }
 
     // Exactly zero removes the key.
@@ -227,29 +144,24 @@ impl Expiring {
     ) -> Reply
         ensures { Following words.old self tick (insert_with_ttl key value ttl) words.new result }
     {
-        let mut numbers = [0u64; 12];
-        numbers::store_book(&mut numbers, self);
-        let said = changes::insert_with_ttl(&mut numbers, words, tick, key, value, ttl);
-        changes::reply_in(&numbers, said)
+        self.on_numbers(words, |numbers, words| {
+            changes::insert_with_ttl(numbers, words, tick, key, value, ttl)
+        })
     }
 
-    pub fn clear(self, words: &mut [u64], _tick: Tick) -> Reply
+    pub fn clear(mut self, words: &mut [u64], _tick: Tick) -> Reply
         ensures { Following words.old self _tick clear words.new result }
     {
-        match self.limits(words.len()) {
-            Outcome::Refused(why) => self.refused(why),
-            Outcome::Done => {
-                let cleared = self.inner.clear(words);
-                let inner = cleared.lru;
-                let book = self.with_list(inner);
-                let step = book.drop_all_deadlines(words);
-                let book = step.book;
-                Reply {
-                    book,
-                    answer: Answer::Done,
-                    discarded: step.discarded,
-                }
-            }
+        if let Err(why) = self.limits(words.len()) {
+            return self.refused(why);
+        }
+        // A list that refuses is as it was, and then the book is none.
+        let _ = self.inner.clear(words);
+        let discarded = self.drop_all_deadlines(words);
+        Reply {
+            book: self,
+            answer: Answer::Done,
+            discarded,
         }
     }
 
@@ -258,25 +170,22 @@ impl Expiring {
     pub fn ttl_status(self, words: &[u64], tick: Tick, key: u64) -> Reply
         ensures { Following words.now self tick (ttl_status key) words.now result }
     {
-        match self.limits(words.len()) {
-            Outcome::Refused(why) => self.refused(why),
-            Outcome::Done => {
-                if self.is_stored(words, key) {
-                    return self.answered(status_of(self.deadline_of(words, key), tick));
-                }
-                self.answered(Answer::Missing)
-            }
+        if let Err(why) = self.limits(words.len()) {
+            return self.refused(why);
         }
+        if self.is_stored(words, key) {
+            return self.answered(status_of(self.deadline_of(words, key), tick));
+        }
+        self.answered(Answer::Missing)
     }
 
     // 0 ticks remove the key.
     pub fn set_ttl(self, words: &mut [u64], tick: Tick, key: u64, ttl: Duration) -> Reply
         ensures { Following words.old self tick (set_ttl key ttl) words.new result }
     {
-        let mut numbers = [0u64; 12];
-        numbers::store_book(&mut numbers, self);
-        let said = changes::set_ttl(&mut numbers, words, tick, key, ttl);
-        changes::reply_in(&numbers, said)
+        self.on_numbers(words, |numbers, words| {
+            changes::set_ttl(numbers, words, tick, key, ttl)
+        })
     }
 
     // Drops every expired pair and its value.
@@ -284,8 +193,8 @@ impl Expiring {
         ensures { Following words.old self tick purge_expired words.new result }
     {
         match self.limits(words.len()) {
-            Outcome::Refused(why) => self.refused(why),
-            Outcome::Done => self.purge_within(words, tick),
+            Err(why) => self.refused(why),
+            Ok(()) => self.purge_within(words, tick),
         }
     }
 
@@ -293,46 +202,37 @@ impl Expiring {
     pub fn live_len(self, words: &[u64], tick: Tick) -> Reply
         ensures { Following words.now self tick live_len words.now result }
     {
-        match self.limits(words.len()) {
-            Outcome::Refused(why) => self.refused(why),
-            Outcome::Done => {
-                let stored = self.stored_count(words);
-                let expired = self.expired_count(words, tick);
-                if stored < expired {
-                    return self.answered(Answer::Count(0));
-                }
-                self.answered(Answer::Count((stored - expired) as u64))
-            }
+        if let Err(why) = self.limits(words.len()) {
+            return self.refused(why);
         }
+        let stored = self.stored_count(words);
+        let expired = self.expired_count(words, tick);
+        self.answered(Answer::Count(stored.saturating_sub(expired) as u64))
     }
 
     pub fn expirations(self, words: &[u64], _tick: Tick) -> Reply
         ensures { Following words.now self _tick expirations words.now result }
     {
         match self.limits(words.len()) {
-            Outcome::Refused(why) => self.refused(why),
-            Outcome::Done => self.answered(Answer::Count(self.expirations)),
+            Err(why) => self.refused(why),
+            Ok(()) => self.answered(Answer::Count(self.expirations)),
         }
     }
 
     // How many deadlines are held, those of keys pushed out among them.
-    pub fn deadlines_held(self, words: &[u64]) -> expiration_index::Count
+    pub fn deadlines_held(self, words: &[u64]) -> Result<usize, Refusal>
         ensures { DeadlinesHeld words.now self result }
     {
-        match self.limits(words.len()) {
-            Outcome::Refused(why) => expiration_index::Count::Refused(why),
-            Outcome::Done => self.deadlines_held_within(words),
-        }
+        self.limits(words.len())?;
+        self.deadlines_held_within(words)
     }
 
     // How many entries are in the heap, live and stale.
-    pub fn heap_len(self, words: &[u64]) -> expiration_index::Count
+    pub fn heap_len(self, words: &[u64]) -> Result<usize, Refusal>
         ensures { HeapLength words.now self result }
     {
-        match self.limits(words.len()) {
-            Outcome::Refused(why) => expiration_index::Count::Refused(why),
-            Outcome::Done => self.heap_len_within(words),
-        }
+        self.limits(words.len())?;
+        self.heap_len_within(words)
     }
 
     // The next due, keys pushed out included. Stale entries before it are discarded.
@@ -340,61 +240,51 @@ impl Expiring {
         ensures { Following words.old self _tick next_deadline words.new result }
     {
         match self.limits(words.len()) {
-            Outcome::Refused(why) => self.refused(why),
-            Outcome::Done => self.next_within(words, _tick),
+            Err(why) => self.refused(why),
+            Ok(()) => self.next_within(words, _tick),
         }
     }
 
     // ---- the recency list's own calls
 
-    pub fn touch(self, words: &mut [u64], _tick: Tick, key: u64) -> Reply
+    pub fn touch(mut self, words: &mut [u64], _tick: Tick, key: u64) -> Reply
         ensures { Following words.old self _tick (touch key) words.new result }
     {
-        match self.limits(words.len()) {
-            Outcome::Refused(why) => self.refused(why),
-            Outcome::Done => {
-                let touched = self.inner.touch(words, key);
-                let inner = touched.lru;
-                let answer = touched.answer;
-                self.with_list(inner).answered(of_told(answer))
-            }
+        if let Err(why) = self.limits(words.len()) {
+            return self.refused(why);
         }
+        let touched = self.inner.touch(words, key);
+        self.answered(of_told(touched.unwrap_or(false)))
     }
 
     pub fn recency_rank(self, words: &[u64], _tick: Tick, key: u64) -> Reply
         ensures { Following words.now self _tick (recency_rank key) words.now result }
     {
-        match self.limits(words.len()) {
-            Outcome::Refused(why) => self.refused(why),
-            Outcome::Done => {
-                let ranked = self.inner.recency_rank(words, key);
-                let answer = ranked.answer;
-                self.answered(of_rank(answer))
-            }
+        if let Err(why) = self.limits(words.len()) {
+            return self.refused(why);
         }
+        let rank = self.inner.recency_rank(words, key);
+        self.answered(of_rank(rank.unwrap_or(None)))
     }
 
-    pub fn pop_lru(self, words: &mut [u64], _tick: Tick) -> Reply
+    pub fn pop_lru(mut self, words: &mut [u64], _tick: Tick) -> Reply
         ensures { Following words.old self _tick pop_lru words.new result }
     {
-        match self.limits(words.len()) {
-            Outcome::Refused(why) => self.refused(why),
-            Outcome::Done => {
-                let popped = self.inner.pop_lru(words);
-                let inner = popped.lru;
-                let answer = popped.answer;
-                self.with_list(inner).answered(of_oldest(answer))
-            }
+        if let Err(why) = self.limits(words.len()) {
+            return self.refused(why);
         }
+        let popped = self.inner.pop_lru(words);
+        self.answered(of_oldest(popped.unwrap_or(None)))
     }
 
     pub fn peek_lru(self, words: &[u64], _tick: Tick) -> Reply
         ensures { Following words.now self _tick peek_lru words.now result }
     {
-        match self.limits(words.len()) {
-            Outcome::Refused(why) => self.refused(why),
-            Outcome::Done => self.answered(of_oldest(self.inner.peek_lru(words))),
+        if let Err(why) = self.limits(words.len()) {
+            return self.refused(why);
         }
+        let oldest = self.inner.peek_lru(words);
+        self.answered(of_oldest(oldest.unwrap_or(None)))
     }
 
     // ---- the check
@@ -404,8 +294,8 @@ impl Expiring {
         ensures { Checking words.now self result }
     {
         match self.limits(words.len()) {
-            Outcome::Refused(_) => false,
-            Outcome::Done => self.check_within(words),
+            Err(_) => false,
+            Ok(()) => self.check_within(words),
         }
     }
 
@@ -414,15 +304,12 @@ impl Expiring {
         ensures { Checking words.now self result }
     {
         let start = 64 + 8 * self.inner.map.capacity;
-        if self.inner.check(words) {
-            return self.index.check(&words[start..]);
-        }
-        false
+        self.inner.check(words) && self.index.check(&words[start..])
     }
 
     // ---- replies
 
-    fn limits(self, size: usize) -> Outcome
+    fn limits(self, size: usize) -> Result<(), Refusal>
         ensures { result ≡ book_limits (capacity_of self) (limit_of self) size }
     {
         limits::book(
@@ -435,11 +322,7 @@ impl Expiring {
     fn refused(self, why: Refusal) -> Reply
         ensures { result ≡ replying self (answers.Refused why) }
     {
-        Reply {
-            book: self,
-            answer: Answer::Refused(why),
-            discarded: 0,
-        }
+        self.answered(Answer::Refused(why))
     }
 
     fn answered(self, answer: Answer) -> Reply
@@ -452,57 +335,36 @@ impl Expiring {
         }
     }
 
-    // ---- the numbers
-
-    fn with_list(self, inner: FastLru) -> Expiring
-        ensures { result ≡ with_list self inner }
+    // The reply of a call on numbers, which are the book's own.
+    fn on_numbers<F: FnOnce(&mut [u64], &mut [u64]) -> Counted<Answer>>(
+        self,
+        words: &mut [u64],
+        change: F,
+    ) -> Reply
+        requires { F.IsAlwaysCallable change }
+        ensures { (t : Tick) (c : Call) → ((a b r a' b' : _) → F.post change a b r a' b' → Changing a.now b.now t c a'.now b'.now r) → Following words.old self t c words.new result }
     {
-        let index = self.index;
-        let default_ttl = self.default_ttl;
-        Expiring {
-            inner,
-            index,
-            default_ttl,
-            expirations: self.expirations,
-        }
-    }
-
-    fn with_index(self, index: ExpirationIndex) -> Expiring
-        ensures { result ≡ with_index self index }
-    {
-        let inner = self.inner;
-        let default_ttl = self.default_ttl;
-        Expiring {
-            inner,
-            index,
-            default_ttl,
-            expirations: self.expirations,
-        }
+        let mut numbers = [0u64; 12];
+        numbers::store_book(&mut numbers, self);
+        let said = change(&mut numbers, words);
+        changes::reply_in(&numbers, said)
     }
 
     // n more expirations; the count stops at u64::MAX.
-    fn expired(self, n: u64) -> Expiring
-        ensures { result ≡ with_expired self n }
+    fn count_expired(&mut self, n: u64)
+        ensures { self.new ≡ with_expired self.old n }
     {
-        let inner = self.inner;
-        let index = self.index;
-        let default_ttl = self.default_ttl;
-        Expiring {
-            inner,
-            index,
-            default_ttl,
-            expirations: saturating_sum(self.expirations, n),
-        }
+        self.expirations = self.expirations.saturating_add(n);
     }
 
-    // ---- what stands in the words
+    // ---- what stands in the words. What the list refuses reads as if there were nothing; the index refuses nothing that has room.
 
-    fn deadline_of(self, words: &[u64], key: u64) -> Deadline
+    fn deadline_of(self, words: &[u64], key: u64) -> Option<Tick>
         requires { Room (length words.now) (capacity_of self) (limit_of self) }
         ensures { DeadlineOf words.now self key result }
     {
         let start = 64 + 8 * self.inner.map.capacity;
-        self.index.deadline_of(&words[start..], key)
+        self.index.deadline_of(&words[start..], key).unwrap()
     }
 
     fn is_expired(self, words: &[u64], tick: Tick, key: u64) -> bool
@@ -515,20 +377,13 @@ impl Expiring {
     fn is_stored(self, words: &[u64], key: u64) -> bool
         ensures { Stored words.now self key result }
     {
-        match self.inner.contains(words, key) {
-            Told::Yes => true,
-            Told::No => false,
-            Told::Refused(_) => false,
-        }
+        self.inner.contains(words, key).unwrap_or(false)
     }
 
     fn stored_count(self, words: &[u64]) -> usize
         ensures { StoredCount words.now self result }
     {
-        match self.inner.len(words) {
-            Count::Number(n) => n,
-            Count::Refused(_) => 0,
-        }
+        self.inner.len(words).unwrap_or(0)
     }
 
     fn expired_count(self, words: &[u64], tick: Tick) -> usize
@@ -536,13 +391,10 @@ impl Expiring {
         ensures { ExpiredCount words.now self tick result }
     {
         let start = 64 + 8 * self.inner.map.capacity;
-        match self.index.expired_count(&words[start..], tick) {
-            expiration_index::Count::Number(n) => n,
-            expiration_index::Count::Refused(_) => 0,
-        }
+        self.index.expired_count(&words[start..], tick).unwrap()
     }
 
-    fn deadlines_held_within(self, words: &[u64]) -> expiration_index::Count
+    fn deadlines_held_within(self, words: &[u64]) -> Result<usize, Refusal>
         requires { Room (length words.now) (capacity_of self) (limit_of self) }
         ensures { DeadlinesHeld words.now self result }
     {
@@ -550,7 +402,7 @@ impl Expiring {
         self.index.len(&words[start..])
     }
 
-    fn heap_len_within(self, words: &[u64]) -> expiration_index::Count
+    fn heap_len_within(self, words: &[u64]) -> Result<usize, Refusal>
         requires { Room (length words.now) (capacity_of self) (limit_of self) }
         ensures { HeapLength words.now self result }
     {
@@ -560,98 +412,76 @@ impl Expiring {
 
     // ---- steps on the deadlines
 
-    fn drop_all_deadlines(self, words: &mut [u64]) -> Undated
-        requires { Room (length words.old) (capacity_of self) (limit_of self) }
-        ensures { Moved words.old self drop_all same words.new result.book result.discarded }
+    // Answers how many entries of the heap it discarded.
+    fn drop_all_deadlines(&mut self, words: &mut [u64]) -> usize
+        requires { Room (length words.old) (capacity_of self.old) (limit_of self.old) }
+        ensures { Moved words.old self.old drop_all same words.new self.new result }
     {
         let start = 64 + 8 * self.inner.map.capacity;
-        let cleared = self.index.clear(&mut words[start..]);
-        let index = cleared.index;
-        Undated {
-            book: self.with_index(index),
-            discarded: cleared.discarded,
-        }
+        self.index.clear(&mut words[start..]).unwrap()
     }
 
     // ---- the larger calls, on words and numbers within their limits
 
-    fn next_within(self, words: &mut [u64], _tick: Tick) -> Reply
+    fn next_within(mut self, words: &mut [u64], _tick: Tick) -> Reply
         requires { Room (length words.old) (capacity_of self) (limit_of self) }
         ensures { Following words.old self _tick next_deadline words.new result }
     {
         let start = 64 + 8 * self.inner.map.capacity;
-        let looked = self.index.next_deadline(&mut words[start..]);
-        let index = looked.index;
-        let answer = looked.answer;
+        let due = self.index.next_deadline(&mut words[start..]).unwrap();
         Reply {
-            book: self.with_index(index),
-            answer: of_due(answer),
-            discarded: looked.discarded,
+            book: self,
+            answer: of_due(due.answer),
+            discarded: due.discarded,
         }
     }
 
     // Takes the expired pairs out, the next due first. Each pair's entry has then left the heap, and counts as discarded.
-    fn purge_within(self, words: &mut [u64], tick: Tick) -> Reply
+    fn purge_within(mut self, words: &mut [u64], tick: Tick) -> Reply
         requires { Room (length words.old) (capacity_of self) (limit_of self) }
         ensures { Following words.old self tick purge_expired words.new result }
     {
-        let mut book = self;
-        let mut count = 0;
-        let mut stale = 0;
-        let mut left = self.index.heap.scores.capacity + 1;
-        while 0 < left {
-            let step = book.pop_expired(words, tick);
-            book = step.book;
-            stale = saturating_sum(stale, step.stale);
-            if !step.is_popped {
-                return book.purged(count, stale);
+        let rounds = self.index.heap.scores.capacity + 1;
+        let mut stale: usize = 0;
+        for count in 0..rounds {
+            let popped = self.pop_expired(words, tick);
+            stale = stale.saturating_add(popped.discarded);
+            if !popped.answer {
+                return self.purged(count, stale);
             }
-            count += 1;
-            left -= 1;
         }
-        book.purged(count, stale)
+        self.purged(rounds, stale)
     }
 
-    fn purged(self, count: u64, stale: u64) -> Reply
+    fn purged(mut self, count: usize, stale: usize) -> Reply
         ensures { result ≡ purging self count stale }
     {
+        self.count_expired(count as u64);
         Reply {
-            book: self.expired(count),
-            answer: Answer::Count(count),
-            discarded: saturating_sum(count, stale) as usize,
+            book: self,
+            answer: Answer::Count(count as u64),
+            discarded: count.saturating_add(stale),
         }
     }
 
-    // Takes the next due out if it is expired, and its value.
-    fn pop_expired(self, words: &mut [u64], tick: Tick) -> Popped
-        requires { Room (length words.old) (capacity_of self) (limit_of self) }
-        ensures { PoppingExpired words.old self tick words.new result }
+    // Takes the next due out if it is expired, and its value. Answers whether it was, and how many stale entries were discarded.
+    fn pop_expired(&mut self, words: &mut [u64], tick: Tick) -> Counted<bool>
+        requires { Room (length words.old) (capacity_of self.old) (limit_of self.old) }
+        ensures { PoppingExpired words.old self.old tick words.new self.new result }
     {
         let start = 64 + 8 * self.inner.map.capacity;
-        let looked = self.index.pop_expired(&mut words[start..], tick);
-        let index = looked.index;
-        let book = self.with_index(index);
-        let stale = looked.discarded as u64;
-        let answer = looked.answer;
-        match answer {
-            Due::Pair(key, _) => {
-                let removed = book.inner.remove(words, key);
-                let inner = removed.lru;
-                Popped {
-                    book: book.with_list(inner),
-                    is_popped: true,
-                    stale,
+        let popped = self.index.pop_expired(&mut words[start..], tick).unwrap();
+        match popped.answer {
+            Some((key, _)) => {
+                let _ = self.inner.remove(words, key);
+                Counted {
+                    answer: true,
+                    discarded: popped.discarded,
                 }
             }
-            Due::Nothing => Popped {
-                book,
-                is_popped: false,
-                stale,
-            },
-            Due::Refused(_) => Popped {
-                book,
-                is_popped: false,
-                stale,
+            None => Counted {
+                answer: false,
+                discarded: popped.discarded,
             },
         }
     }

@@ -11,7 +11,7 @@
 // nothing; on words and numbers that form no book, only they may change.
 //
 // For a caller that keeps the numbers in words, `get`, `insert`, `insert_with_ttl`, `remove` and `set_ttl` are also functions that
-// change them where they stand, and answer `Said`; the methods are made of these.
+// change them where they stand, and answer without them; the methods are made of these.
 #![tactic(auto)]
 
 mod answers;
@@ -19,6 +19,6 @@ mod expiring;
 mod numbers;
 
 pub use answers::Reply;
-pub use expiring::changes::{Said, get, insert, insert_with_ttl, remove, set_ttl};
-pub use expiring::{Expiring, Opened};
+pub use expiring::Expiring;
+pub use expiring::changes::{get, insert, insert_with_ttl, remove, set_ttl};
 pub use numbers::{book_in, store_book, store_changed};

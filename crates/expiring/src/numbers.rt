@@ -1,17 +1,16 @@
 // The book's numbers in words: twelve, in the order of the structs. A call that is handed them in words changes those that change
 // where they stand, while a struct that a call takes or answers is copied in memory, and its reader waits for the copy.
 ghost use Rattle.std.specs.Prelude.{◌≡◌, ◌≤◌, length};
-ghost use Rattle.expiring.specs.Numbers.{lru_in, index_in, default_in, book_in, given_of, ticks_of, with_lru, with_deadlines, with_held, with_changed, with_book};
+ghost use Rattle.expiring.specs.Numbers.{lru_in, index_in, book_in, with_lru, with_deadlines, with_held, with_changed, with_book};
 
 use crate::expiring::Expiring;
 use expiration_index::ExpirationIndex;
-use expiring_model::DefaultTtl;
 use fast_lru::FastLru;
 use lazy_heap::LazyMinHeap;
 use linked_hash_map::LinkedHashMap;
 use time::TtlTicks;
 
-fn list_in(numbers: &[u64]) -> FastLru
+pub fn list_in(numbers: &[u64]) -> FastLru
     requires { 12 ≤ length numbers.now }
     ensures { result ≡ lru_in numbers.now }
 {
@@ -24,7 +23,7 @@ fn list_in(numbers: &[u64]) -> FastLru
     }
 }
 
-fn index_in(numbers: &[u64]) -> ExpirationIndex
+pub fn index_in(numbers: &[u64]) -> ExpirationIndex
     requires { 12 ≤ length numbers.now }
     ensures { result ≡ index_in numbers.now }
 {
@@ -42,45 +41,18 @@ fn index_in(numbers: &[u64]) -> ExpirationIndex
     }
 }
 
-fn default_in(given: u64, ticks: u64) -> DefaultTtl
-    ensures { result ≡ default_in given ticks }
-{
-    if given == 0 {
-        return DefaultTtl::Nothing;
-    }
-    DefaultTtl::Of(TtlTicks(ticks))
-}
-
 pub fn book_in(numbers: &[u64]) -> Expiring
     requires { 12 ≤ length numbers.now }
     ensures { result ≡ book_in numbers.now }
 {
     let inner = list_in(numbers);
     let index = index_in(numbers);
-    let default_ttl = default_in(numbers[9], numbers[10]);
+    let is_given = numbers[9] != 0;
     Expiring {
         inner,
         index,
-        default_ttl,
+        default_ttl: is_given.then_some(TtlTicks(numbers[10])),
         expirations: numbers[11],
-    }
-}
-
-fn given_of(default_ttl: DefaultTtl) -> u64
-    ensures { result ≡ given_of default_ttl }
-{
-    match default_ttl {
-        DefaultTtl::Nothing => 0,
-        DefaultTtl::Of(_) => 1,
-    }
-}
-
-fn ticks_of(default_ttl: DefaultTtl) -> u64
-    ensures { result ≡ ticks_of default_ttl }
-{
-    match default_ttl {
-        DefaultTtl::Nothing => 0,
-        DefaultTtl::Of(ttl) => ttl.0,
     }
 }
 
@@ -121,10 +93,8 @@ pub fn store_changed(numbers: &mut [u64], book: Expiring)
     requires { 12 ≤ length numbers.old }
     ensures { numbers.new ≡ with_changed numbers.old book }
 {
-    let inner = book.inner;
-    let index = book.index;
-    store_list(numbers, inner);
-    store_index(numbers, index);
+    store_list(numbers, book.inner);
+    store_index(numbers, book.index);
     numbers[11] = book.expirations;
 }
 
@@ -135,7 +105,7 @@ pub fn store_book(numbers: &mut [u64], book: Expiring)
     let default_ttl = book.default_ttl;
     numbers[0] = book.inner.map.capacity as u64;
     numbers[3] = book.index.heap.scores.capacity as u64;
-    numbers[9] = given_of(default_ttl);
-    numbers[10] = ticks_of(default_ttl);
+    numbers[9] = default_ttl.is_some() as u64;
+    numbers[10] = default_ttl.unwrap_or(TtlTicks(0)).0;
     store_changed(numbers, book);
 }

@@ -1,12 +1,11 @@
 -- Document 01, "Thrown by a call": how many entries of the heap a call discards, and what it leaves of them.
-use Rattle.std.specs.Prelude.{cond, ◌&&◌, List, [], ◌∷◌, ℕ, ◌+◌, ltb}
+use Rattle.std.specs.Prelude.{cond, ◌&&◌, List, [], ◌∷◌, ℕ, ◌+◌, ltb, Result, Ok, Err, ⊤}
 use Rattle.time.specs.declared.tick.Tick.{Tick}
-use Rattle.time.specs.declared.refusal.Outcome.{Outcome}
-use Rattle.time.specs.declared.refusal.Outcome.TheVariants as outcome
+use Rattle.time.specs.declared.refusal.Refusal.{Refusal}
 use Rattle.binary_heap.specs.declared.entries.Entry.{Entry}
 use Rattle.linked_hash_map.specs.declared.map.Record.{Record}
 use Rattle.lazy_heap_model.specs.Model.{Heap, live, surplus, updated, update_discards, removed, peeked, cleared, stale}
-use Rattle.expiring_model.specs.Model.{Book, Call, Change, keep, set, drop, drop_expired, drop_all, look, change_of, refusal_of}
+use Rattle.expiring_model.specs.Model.{Book, Call, Change, keep, set, drop, drop_expired, drop_all, look, change_of, refusal_of, or_same}
 
 -- "the entries before the first live one with deadline > now (all if there is none)", and what is left without them
 unfoldable pub expired_before : Tick → List Record → List Entry → ℕ
@@ -43,13 +42,9 @@ heap_after keep h = h
 heap_after (drop k) h = removed k h
 
 -- "A refusal reports 0 thrown."
-abbrev or_none : Outcome → ℕ → ℕ
-or_none outcome.Done n = n
-or_none (outcome.Refused why) n = 0
-
-abbrev or_same : Outcome → Heap → Heap → Heap
-or_same outcome.Done new old = new
-or_same (outcome.Refused why) new old = old
+abbrev or_none : Result ⊤ Refusal → ℕ → ℕ
+or_none (Ok u) n = n
+or_none (Err why) n = 0
 
 unfoldable pub discarded_by : Tick → Call → Book → Heap → ℕ
 discarded_by t c b h = or_none (refusal_of t c b) (discards (change_of t c b) h)

@@ -1,36 +1,25 @@
 -- The model: document 01, "The plain book". It is fed each call's name and arguments, and knows nothing of words, of the
 -- book's numbers or of the heap's entries.
-use Rattle.std.specs.Prelude.{Bool, true, false, cond, not, ◌&&◌, [], ◌∷◌, ℕ, ◌+◌, ◌-◌, ◌^◌, min, eqb, length}
-use Rattle.std.proofs.Math.Option.{Option, none, some}
+use Rattle.std.specs.Prelude.{Bool, true, false, cond, not, ◌&&◌, [], ◌∷◌, ℕ, ◌+◌, ◌-◌, ◌^◌, min, eqb, length, Option, Some, None, Result, Ok, Err, ⊤}
 use Rattle.time.specs.declared.tick.Tick.{Tick}
-use Rattle.time.specs.declared.tick.Remaining.{Remaining}
-use Rattle.time.specs.declared.tick.Remaining.TheVariants as remaining
 use Rattle.time.specs.declared.duration.Duration.{Duration}
-use Rattle.time.specs.declared.duration.Ticked.{Ticked}
-use Rattle.time.specs.declared.duration.Ticked.TheVariants as ticked
-use Rattle.time.specs.declared.refusal.Outcome.{Outcome}
-use Rattle.time.specs.declared.refusal.Outcome.TheVariants as outcome
+use Rattle.time.specs.declared.duration.TtlTicks.{TtlTicks}
+use Rattle.time.specs.declared.refusal.Refusal.{Refusal}
 use Rattle.time.specs.declared.refusal.Refusal.TheVariants.{InvalidNanos, KeyLimitReached}
 use Rattle.time.specs.Duration.{is_zero, is_duration, millis_of, ticks_of}
 use Rattle.time.specs.Deadline.{deadline_from, is_expired_at, remaining_at}
-use Rattle.fast_lru_model.specs.declared.answers.Rank.{Rank}
-use Rattle.fast_lru_model.specs.declared.answers.Rank.TheVariants as rank
 use Rattle.fast_lru_model.specs.Model.{Item, Items, to_front, inserted, last, popped, rank_of}
 use Rattle.fast_lru_model.specs.Model as list
 use Rattle.expiration_index.specs.Model.{Pair, Pairs, next, is_full, expired_count, unexpired}
 use Rattle.expiration_index.specs.Model as pairs
 use Rattle.expiring_model.specs.declared.answers.Answer.{Answer}
 use Rattle.expiring_model.specs.declared.answers.Answer.TheVariants as answer
-use Rattle.expiring_model.specs.declared.lifetimes.DefaultTtl.{DefaultTtl}
-use Rattle.expiring_model.specs.declared.lifetimes.DefaultTtl.TheVariants as default
-use Rattle.expiring_model.specs.declared.lifetimes.DefaultDuration.{DefaultDuration}
-use Rattle.expiring_model.specs.declared.lifetimes.DefaultDuration.TheVariants as asked
 
 pub record Book : Type 0 where
   pub capacity : ℕ
   -- at most so many deadlines
   pub limit : ℕ
-  pub lifetime : DefaultTtl
+  pub lifetime : Option TtlTicks
   -- newest first
   pub stored : Items
   -- latest set last
@@ -41,16 +30,16 @@ pub record Book : Type 0 where
   pub removed : ℕ
 
 -- the default lifetime in ticks
-abbrev pub of_ticks : Ticked → DefaultTtl
-of_ticks (ticked.Ticks l) = default.Of l
-of_ticks (ticked.Refused why) = default.Nothing
+abbrev pub of_ticks : Result TtlTicks Refusal → Option TtlTicks
+of_ticks (Ok l) = Some l
+of_ticks (Err why) = None
 
-abbrev pub default_of : DefaultDuration → DefaultTtl
-default_of (asked.Of d) = of_ticks (ticks_of d)
-default_of asked.Nothing = default.Nothing
+abbrev pub default_of : Option Duration → Option TtlTicks
+default_of (Some d) = of_ticks (ticks_of d)
+default_of None = None
 
 -- "It starts with the opening's C, D and default, both lists empty, all counts 0."
-unfoldable pub fresh : ℕ → ℕ → DefaultTtl → Book
+unfoldable pub fresh : ℕ → ℕ → Option TtlTicks → Book
 fresh c d l = record { capacity = c; limit = d; lifetime = l; stored = []; deadlines = []; expirations = 0; replaced = 0; removed = 0 }
 
 pub data Call : Type 0 where
@@ -75,8 +64,8 @@ pub data Call : Type 0 where
 
 -- ---- a key's deadline
 abbrev pub has_come : Tick → Option Pair → Bool
-has_come t none = false
-has_come t (some p) = is_expired_at p.deadline t
+has_come t None = false
+has_come t (Some p) = is_expired_at p.deadline t
 
 unfoldable pub is_expired : Tick → ℕ → Book → Bool
 is_expired t k b = has_come t (pairs.lookup k b.deadlines)
@@ -99,9 +88,9 @@ pub data Change : Type 0 where
   look : Change
 
 -- "set the default deadline, or drop the pair"
-abbrev pub by_default : Tick → ℕ → DefaultTtl → Change
-by_default t k (default.Of l) = set k (deadline_from t l)
-by_default t k default.Nothing = drop k
+abbrev pub by_default : Tick → ℕ → Option TtlTicks → Change
+by_default t k (Some l) = set k (deadline_from t l)
+by_default t k None = drop k
 
 unfoldable pub change_of : Tick → Call → Book → Change
 -- "expired deadline: drop value and pair ... This holds also for a key no longer stored."
@@ -207,21 +196,20 @@ expired_by t peek_lru b = 0
 
 -- ---- what it answers
 abbrev pub value_in : Option Item → Answer
-value_in none = answer.Nothing
-value_in (some i) = answer.Value i.value
+value_in None = answer.Nothing
+value_in (Some i) = answer.Value i.value
 
 abbrev pub item_in : Option Item → Answer
-item_in none = answer.Nothing
-item_in (some i) = answer.Item i.key i.value
+item_in None = answer.Nothing
+item_in (Some i) = answer.Item i.key i.value
 
 abbrev pub due_in : Option Pair → Answer
-due_in none = answer.Nothing
-due_in (some p) = answer.Due p.key p.deadline
+due_in None = answer.Nothing
+due_in (Some p) = answer.Due p.key p.deadline
 
-abbrev pub rank_in : Rank → Answer
-rank_in (rank.At n) = answer.Rank n
-rank_in rank.Nothing = answer.Nothing
-rank_in (rank.Refused why) = answer.Nothing
+abbrev pub rank_in : Option ℕ → Answer
+rank_in (Some n) = answer.Rank n
+rank_in None = answer.Nothing
 
 abbrev pub tell : Bool → Answer
 tell true = answer.Yes
@@ -232,13 +220,13 @@ unfoldable pub value_unless_expired : Tick → ℕ → Book → Answer
 value_unless_expired t k b = cond (is_expired t k b) answer.Nothing (value_in (list.lookup k b.stored))
 
 -- "missing if not stored, immortal with no deadline, expired, or else live with deadline - now and the deadline"
-abbrev pub lives_at : Tick → Remaining → Answer
-lives_at d remaining.Expired = answer.Expired
-lives_at d (remaining.Live l) = answer.Live l d
+abbrev pub lives_at : Tick → Option TtlTicks → Answer
+lives_at d None = answer.Expired
+lives_at d (Some l) = answer.Live l d
 
 abbrev pub status_in : Tick → Option Pair → Answer
-status_in t none = answer.Immortal
-status_in t (some p) = lives_at p.deadline (remaining_at p.deadline t)
+status_in t None = answer.Immortal
+status_in t (Some p) = lives_at p.deadline (remaining_at p.deadline t)
 
 unfoldable pub answered : Tick → Call → Book → Answer
 answered t (contains k) b = tell (is_stored k b && not (is_expired t k b))
@@ -291,8 +279,8 @@ sets_beyond (drop_expired t) b = false
 sets_beyond drop_all b = false
 sets_beyond look b = false
 
-unfoldable pub refusal_of : Tick → Call → Book → Outcome
-refusal_of t c b = cond (bad_nanos c) (outcome.Refused InvalidNanos) (cond (sets_beyond (change_of t c b) b) (outcome.Refused KeyLimitReached) outcome.Done)
+unfoldable pub refusal_of : Tick → Call → Book → Result ⊤ Refusal
+refusal_of t c b = cond (bad_nanos c) (Err InvalidNanos) (cond (sets_beyond (change_of t c b) b) (Err KeyLimitReached) (Ok tt))
 
 -- ---- a call
 -- "expirations (stops at u64::MAX)"
@@ -309,13 +297,13 @@ accepted t c b = record {
 }
 
 -- "A refused call gets its refusal and changes nothing"
-abbrev or_refused : Outcome → Answer → Answer
-or_refused outcome.Done a = a
-or_refused (outcome.Refused why) a = answer.Refused why
+abbrev or_refused : Result ⊤ Refusal → Answer → Answer
+or_refused (Ok u) a = a
+or_refused (Err why) a = answer.Refused why
 
-abbrev or_same : Outcome → Book → Book → Book
-or_same outcome.Done new old = new
-or_same (outcome.Refused why) new old = old
+abbrev pub or_same : {A : Type 0} → Result ⊤ Refusal → A → A → A
+or_same (Ok u) new old = new
+or_same (Err why) new old = old
 
 unfoldable pub answer_of : Tick → Call → Book → Answer
 answer_of t c b = or_refused (refusal_of t c b) (answered t c b)

@@ -1,5 +1,5 @@
 -- Samples B1 to B12 of document 01, and two more: calls on a fresh book, and what the definitions are to give.
-use Rattle.std.specs.Prelude.{List, [], ◌∷◌, ℕ, ◌+◌, ◌*◌, length}
+use Rattle.std.specs.Prelude.{List, [], ◌∷◌, ℕ, ◌+◌, ◌*◌, length, Option, Some, None}
 use Rattle.time.specs.declared.tick.Tick.{Tick}
 use Rattle.time.specs.declared.duration.Duration.{Duration}
 use Rattle.time.specs.declared.refusal.Refusal.TheVariants.{KeyLimitReached}
@@ -7,8 +7,6 @@ use Rattle.lazy_heap_model.specs.Model.{Heap, heap_len, opened}
 use Rattle.expiration_index.specs.Index.{factor}
 use Rattle.expiring_model.specs.declared.answers.Answer.{Answer}
 use Rattle.expiring_model.specs.declared.answers.Answer.TheVariants.{Nothing, Value, Yes, No, Missing, Immortal, Expired, Live, Count, Due, Item, Rank, Done, Refused}
-use Rattle.expiring_model.specs.declared.lifetimes.DefaultDuration.{DefaultDuration}
-use Rattle.expiring_model.specs.declared.lifetimes.DefaultDuration.TheVariants as default
 use Rattle.expiring_model.specs.Model.{Book, Call, contains, peek, get, insert, remove, clear, insert_with_ttl, ttl_status, set_ttl, purge_expired, live_len, expirations, next_deadline, touch, recency_rank, pop_lru, peek_lru, fresh, answer_of, book_after}
 use Rattle.expiring_model.specs.Discards.{discarded_by, heap_by}
 use Rattle.expiring_model.specs.Model.{default_of}
@@ -42,7 +40,7 @@ pub record Sample : Type 0 where
   pub capacity : ℕ
   pub limit : ℕ
   pub start : ℕ
-  pub lifetime : DefaultDuration
+  pub lifetime : Option Duration
   pub calls : Calls
   pub told : Told
 
@@ -90,12 +88,12 @@ a x d e = record { answer = x; discarded = d; entries = e }
 abbrev sum : ℕ → ℕ → ℕ → ℕ → ℕ → Sum
 sum d e h p m = record { discarded = d; entries = e; held = h; replaced = p; removed = m }
 
-abbrev opening : ℕ → ℕ → ℕ → DefaultDuration → Calls → List Answered → Sum → Sample
+abbrev opening : ℕ → ℕ → ℕ → Option Duration → Calls → List Answered → Sum → Sample
 opening c d s l calls answers sum = record { capacity = c; limit = d; start = s; lifetime = l; calls = calls; told = record { answers = answers; sum = sum } }
 
 -- "C 2, D 4, sequence 0, no default, unless said."
 abbrev sample : Calls → List Answered → Sum → Sample
-sample = opening 2 4 0 default.Nothing
+sample = opening 2 4 0 None
 
 abbrev pub samples : List Sample
 samples =
@@ -125,12 +123,12 @@ samples =
     (a Nothing 0 1 ∷ a (Value 70) 0 2 ∷ a (Value 70) 2 1 ∷ [])
     (sum 2 1 1 2 0)
     -- B6: C 1: 7 for 5 ms, 8 for 100 ms, both at 0. At 10 `live_len` is 0 though 8 is live; purge 1; then 1
-    ∷ opening 1 4 0 default.Nothing
+    ∷ opening 1 4 0 None
     (at 0 (timed 7 (ms 5)) ∷ at 0 (timed 8 (ms 100)) ∷ at 10 live_len ∷ at 10 (ttl_status 8) ∷ at 10 purge_expired ∷ at 10 live_len ∷ [])
     (a Nothing 0 1 ∷ a Nothing 0 2 ∷ a (Count 0) 0 2 ∷ a (live 90 100) 0 2 ∷ a (Count 1) 1 1 ∷ a (Count 1) 0 1 ∷ [])
     (sum 1 1 1 0 1)
     -- B7: C 3, and 7, 8, 9 set to 100; the third renumbers; next due 7
-    ∷ opening 3 4 18446744073709551613 default.Nothing
+    ∷ opening 3 4 18446744073709551613 None
     (at 0 (timed 7 (ms 100)) ∷ at 0 (timed 8 (ms 100)) ∷ at 0 (timed 9 (ms 100)) ∷ at 0 next_deadline ∷ [])
     (a Nothing 0 1 ∷ a Nothing 0 2 ∷ a Nothing 0 3 ∷ a (due 7 100) 0 3 ∷ [])
     (sum 0 3 3 0 0)
@@ -140,7 +138,7 @@ samples =
     (a Nothing 0 1 ∷ a Expired 0 1 ∷ a Nothing 0 1 ∷ a Immortal 0 1 ∷ a No 0 1 ∷ a Missing 0 1 ∷ [])
     (sum 0 1 1 0 0)
     -- B9: C 0, default 5 ms, `insert` 7 at 0: none stored, next due (7, 5)
-    ∷ opening 0 4 0 (default.Of (ms 5))
+    ∷ opening 0 4 0 (Some (ms 5))
     (at 0 (insert 7 70) ∷ at 0 (ttl_status 7) ∷ at 0 next_deadline ∷ [])
     (a Nothing 0 1 ∷ a Missing 0 1 ∷ a (due 7 5) 0 1 ∷ [])
     (sum 0 1 1 0 0)
@@ -150,7 +148,7 @@ samples =
     (a Nothing 0 1 ∷ a (due 7 18446744073709551614) 0 1 ∷ a (Value 70) 0 2 ∷ a (live 18446744073709551614 18446744073709551614) 0 2 ∷ [])
     (sum 0 2 1 1 0)
     -- B11: D 1: 7 timed, 8 gets refusal 4, 7 again accepted; 7 removed, 8 accepted
-    ∷ opening 2 1 0 default.Nothing
+    ∷ opening 2 1 0 None
     (at 0 (timed 7 (ms 5)) ∷ at 0 (timed 8 (ms 5)) ∷ at 0 (timed 7 (ms 5)) ∷ at 0 (remove 7) ∷ at 0 (timed 8 (ms 5)) ∷ [])
     (a Nothing 0 1 ∷ a (Refused KeyLimitReached) 0 1 ∷ a (Value 70) 0 2 ∷ a (Value 70) 0 2 ∷ a Nothing 2 1 ∷ [])
     (sum 2 1 1 1 1)

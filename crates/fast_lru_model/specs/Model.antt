@@ -1,14 +1,5 @@
 -- The model: document 01, "fast_lru.rs". A list of items, newest first. It knows nothing of words.
-use Rattle.std.specs.Prelude.{◌≡◌, Bool, true, false, cond, ◌||◌, List, [], ◌∷◌, ℕ, ◌+◌, eqb, ltb, length}
-use Rattle.std.proofs.Math.Option.{Option, none, some}
-use Rattle.fast_lru_model.specs.declared.answers.Found.{Found}
-use Rattle.fast_lru_model.specs.declared.answers.Found.TheVariants as found
-use Rattle.fast_lru_model.specs.declared.answers.Oldest.{Oldest}
-use Rattle.fast_lru_model.specs.declared.answers.Oldest.TheVariants as oldest
-use Rattle.fast_lru_model.specs.declared.answers.Rank.{Rank}
-use Rattle.fast_lru_model.specs.declared.answers.Rank.TheVariants as rank
-use Rattle.fast_lru_model.specs.declared.answers.Told.{Told}
-use Rattle.fast_lru_model.specs.declared.answers.Told.TheVariants as told
+use Rattle.std.specs.Prelude.{◌≡◌, Bool, false, cond, ◌||◌, List, [], ◌∷◌, ℕ, ◌+◌, eqb, ltb, length, Option, Some, None}
 
 pub record Item : Type 0 where
   pub key : ℕ
@@ -20,8 +11,8 @@ Items = List Item
 -- ---- parts of a list
 -- the item of a key
 unfoldable pub lookup : ℕ → Items → Option Item
-lookup k [] = none
-lookup k (i ∷ l) = cond (eqb i.key k) (some i) (lookup k l)
+lookup k [] = None
+lookup k (i ∷ l) = cond (eqb i.key k) (Some i) (lookup k l)
 
 -- whether a key is stored
 unfoldable pub has : ℕ → Items → Bool
@@ -35,37 +26,34 @@ without k (i ∷ l) = cond (eqb i.key k) (without k l) (i ∷ without k l)
 
 -- the last item: the least recent one
 unfoldable pub last : Items → Option Item
-last [] = none
-last (i ∷ []) = some i
+last [] = None
+last (i ∷ []) = Some i
 last (i ∷ (j ∷ l)) = last (j ∷ l)
 
 -- the list with an item of it gone
 abbrev pub less : Option Item → Items → Items
-less none l = l
-less (some i) l = without i.key l
+less None l = l
+less (Some i) l = without i.key l
 
 -- ---- answers
-abbrev pub value_in : Option Item → Found
-value_in none = found.Nothing
-value_in (some i) = found.Value i.value
+abbrev pub value_in : Option Item → Option ℕ
+value_in None = None
+value_in (Some i) = Some i.value
 
-abbrev pub item_in : Option Item → Oldest
-item_in none = oldest.Nothing
-item_in (some i) = oldest.Item i.key i.value
-
-abbrev pub tell : Bool → Told
-tell true = told.Yes
-tell false = told.No
+-- its key and its value
+abbrev pub item_in : Option Item → Option (ℕ × ℕ)
+item_in None = None
+item_in (Some i) = Some (i.key, i.value)
 
 -- ---- calls
 -- `peek`: the value of a key, and nothing moves; `get`, `insert` and `remove` answer the same
-unfoldable pub value_of : ℕ → Items → Found
+unfoldable pub value_of : ℕ → Items → Option ℕ
 value_of k l = value_in (lookup k l)
 
 -- `get` and `touch`: the key's item moves to the front
 abbrev in_front : Option Item → Items → Items → Items
-in_front none rest l = l
-in_front (some i) rest l = i ∷ rest
+in_front None rest l = l
+in_front (Some i) rest l = i ∷ rest
 
 unfoldable pub to_front : ℕ → Items → Items
 to_front k l = in_front (lookup k l) (without k l) l
@@ -87,18 +75,18 @@ unfoldable pub inserted : ℕ → Item → Items → Items
 inserted c i l = cond (eqb c 0) l (i ∷ without i.key (with_room c i.key l))
 
 -- `pop_lru` and `peek_lru`: the last item, which `pop_lru` takes out
-unfoldable pub oldest_of : Items → Oldest
+unfoldable pub oldest_of : Items → Option (ℕ × ℕ)
 oldest_of l = item_in (last l)
 
 unfoldable pub popped : Items → Items
 popped l = less (last l) l
 
 -- `recency_rank`: the place of a key, the front being n
-unfoldable pub rank_from : ℕ → ℕ → Items → Rank
-rank_from n k [] = rank.Nothing
-rank_from n k (i ∷ l) = cond (eqb i.key k) (rank.At n) (rank_from (n + 1) k l)
+unfoldable pub rank_from : ℕ → ℕ → Items → Option ℕ
+rank_from n k [] = None
+rank_from n k (i ∷ l) = cond (eqb i.key k) (Some n) (rank_from (n + 1) k l)
 
-unfoldable pub rank_of : ℕ → Items → Rank
+unfoldable pub rank_of : ℕ → Items → Option ℕ
 rank_of k l = rank_from 0 k l
 
 -- no two items have one key

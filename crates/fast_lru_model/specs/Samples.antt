@@ -1,14 +1,6 @@
 -- Worked examples: sample B12 of document 01, and lists with room for none, one and a few items.
-use Rattle.std.specs.Prelude.{List, [], ◌∷◌, ℕ, eqb, length}
-use Rattle.fast_lru_model.specs.declared.answers.Found.{Found}
-use Rattle.fast_lru_model.specs.declared.answers.Found.TheVariants as found
-use Rattle.fast_lru_model.specs.declared.answers.Oldest.{Oldest}
-use Rattle.fast_lru_model.specs.declared.answers.Oldest.TheVariants as oldest
-use Rattle.fast_lru_model.specs.declared.answers.Rank.{Rank}
-use Rattle.fast_lru_model.specs.declared.answers.Rank.TheVariants as rank
-use Rattle.fast_lru_model.specs.declared.answers.Told.{Told}
-use Rattle.fast_lru_model.specs.declared.answers.Told.TheVariants as told
-use Rattle.fast_lru_model.specs.Model.{Items, has, without, tell, value_of, to_front, inserted, oldest_of, popped, rank_of}
+use Rattle.std.specs.Prelude.{List, [], ◌∷◌, ℕ, Bool, true, false, eqb, length, Option, Some, None}
+use Rattle.fast_lru_model.specs.Model.{Items, has, without, value_of, to_front, inserted, oldest_of, popped, rank_of}
 
 pub data Call : Type 0 where
   len : Call
@@ -26,10 +18,10 @@ pub data Call : Type 0 where
 
 pub data Answer : Type 0 where
   number : ℕ → Answer
-  says : Told → Answer
-  value : Found → Answer
-  item : Oldest → Answer
-  at : Rank → Answer
+  says : Bool → Answer
+  value : Option ℕ → Answer
+  item : Option (ℕ × ℕ) → Answer
+  at : Option ℕ → Answer
   done : Answer
 
 -- a list of calls on a fresh list with room for `capacity` items
@@ -41,8 +33,8 @@ pub record Sample : Type 0 where
 -- what the definitions answer, and the list after it, with room for c items
 abbrev pub answer : Call → Items → Answer
 answer len l = number (length l)
-answer is_empty l = says (tell (eqb (length l) 0))
-answer (contains k) l = says (tell (has k l))
+answer is_empty l = says (eqb (length l) 0)
+answer (contains k) l = says (has k l)
 answer (get k) l = value (value_of k l)
 answer (peek k) l = value (value_of k l)
 answer (insert k v) l = value (value_of k l)
@@ -50,7 +42,7 @@ answer (remove k) l = value (value_of k l)
 answer pop_lru l = item (oldest_of l)
 answer peek_lru l = item (oldest_of l)
 answer clear l = done
-answer (touch k) l = says (tell (has k l))
+answer (touch k) l = says (has k l)
 answer (recency_rank k) l = at (rank_of k l)
 
 abbrev pub after : ℕ → Call → Items → Items
@@ -75,23 +67,36 @@ abbrev sample : ℕ → List Call → List Answer → Sample
 sample c calls answers = record { capacity = c; calls = calls; answers = answers }
 
 abbrev new : Answer
-new = value found.Nothing
+new = value None
 
 abbrev old : ℕ → Answer
-old v = value (found.Value v)
+old v = value (Some v)
 
 abbrev yes : Answer
-yes = says told.Yes
+yes = says true
 
 abbrev no : Answer
-no = says told.No
+no = says false
+
+abbrev ranked : ℕ → Answer
+ranked n = at (Some n)
+
+abbrev unranked : Answer
+unranked = at None
+
+-- the least recent item, and that of an empty list
+abbrev least : ℕ → ℕ → Answer
+least k v = item (Some (k, v))
+
+abbrev empty : Answer
+empty = item None
 
 abbrev pub samples : List Sample
 samples =
     -- B12: 2 is pushed out; ranks 3:0, 1:1
     sample 2
     (insert 1 10 ∷ insert 2 20 ∷ get 1 ∷ insert 3 30 ∷ contains 2 ∷ recency_rank 3 ∷ recency_rank 1 ∷ recency_rank 2 ∷ [])
-    (new ∷ new ∷ old 10 ∷ new ∷ no ∷ at (rank.At 0) ∷ at (rank.At 1) ∷ at rank.Nothing ∷ [])
+    (new ∷ new ∷ old 10 ∷ new ∷ no ∷ ranked 0 ∷ ranked 1 ∷ unranked ∷ [])
     -- the same with `peek`, which moves nothing: 1 is pushed out
     ∷ sample 2
     (insert 1 10 ∷ insert 2 20 ∷ peek 1 ∷ insert 3 30 ∷ contains 1 ∷ contains 2 ∷ len ∷ [])
@@ -99,11 +104,11 @@ samples =
     -- an empty list
     ∷ sample 2
     (is_empty ∷ get 7 ∷ peek 7 ∷ remove 7 ∷ touch 7 ∷ recency_rank 7 ∷ pop_lru ∷ peek_lru ∷ clear ∷ len ∷ [])
-    (yes ∷ new ∷ new ∷ new ∷ no ∷ at rank.Nothing ∷ item oldest.Nothing ∷ item oldest.Nothing ∷ done ∷ number 0 ∷ [])
+    (yes ∷ new ∷ new ∷ new ∷ no ∷ unranked ∷ empty ∷ empty ∷ done ∷ number 0 ∷ [])
     -- capacity 0 stores nothing
     ∷ sample 0
     (insert 7 70 ∷ contains 7 ∷ len ∷ pop_lru ∷ [])
-    (new ∷ no ∷ number 0 ∷ item oldest.Nothing ∷ [])
+    (new ∷ no ∷ number 0 ∷ empty ∷ [])
     -- capacity 1: an insert over a key pushes nothing out, one of another key does
     ∷ sample 1
     (insert 7 70 ∷ insert 7 71 ∷ peek 7 ∷ insert 8 80 ∷ peek 7 ∷ peek 8 ∷ len ∷ is_empty ∷ [])
@@ -111,7 +116,7 @@ samples =
     -- an insert over a key moves it to the front, and so does `touch`
     ∷ sample 3
     (insert 1 10 ∷ insert 2 20 ∷ insert 3 30 ∷ insert 1 11 ∷ recency_rank 1 ∷ peek_lru ∷ touch 2 ∷ pop_lru ∷ pop_lru ∷ pop_lru ∷ pop_lru ∷ [])
-    (new ∷ new ∷ new ∷ old 10 ∷ at (rank.At 0) ∷ item (oldest.Item 2 20) ∷ yes ∷ item (oldest.Item 3 30) ∷ item (oldest.Item 1 11) ∷ item (oldest.Item 2 20) ∷ item oldest.Nothing ∷ [])
+    (new ∷ new ∷ new ∷ old 10 ∷ ranked 0 ∷ least 2 20 ∷ yes ∷ least 3 30 ∷ least 1 11 ∷ least 2 20 ∷ empty ∷ [])
     -- a removal and `clear` make room
     ∷ sample 2
     (insert 1 10 ∷ insert 2 20 ∷ remove 2 ∷ insert 3 30 ∷ contains 1 ∷ clear ∷ len ∷ insert 4 40 ∷ len ∷ [])

@@ -1,15 +1,9 @@
 -- The model of the heap: document 01, "lazy_heap.rs" and "Thrown by a call". It knows nothing of words.
-use Rattle.std.specs.Prelude.{Bool, false, cond, not, ◌&&◌, List, [], ◌∷◌, map, ℕ, ◌+◌, ◌-◌, ◌*◌, ◌^◌, max, eqb, ltb, leb, length}
+use Rattle.std.specs.Prelude.{Bool, false, cond, not, ◌&&◌, List, [], ◌∷◌, map, ℕ, ◌+◌, ◌-◌, ◌*◌, ◌^◌, max, eqb, ltb, leb, length, Option, Some, None}
 use Rattle.binary_heap.specs.declared.entries.Entry.{Entry}
 use Rattle.binary_heap.specs.Order.{insert, sort}
 use Rattle.linked_hash_map.specs.declared.map.Record.{Record}
-use Rattle.linked_hash_map.specs.declared.map.Taken.{Taken}
-use Rattle.linked_hash_map.specs.declared.map.Taken.TheVariants as taken
 use Rattle.linked_hash_map.specs.Model.{has, lookup, without}
-use Rattle.lazy_heap_model.specs.declared.scores.Score.{Score}
-use Rattle.lazy_heap_model.specs.declared.scores.Score.TheVariants as score
-use Rattle.lazy_heap_model.specs.declared.scores.Best.{Best}
-use Rattle.lazy_heap_model.specs.declared.scores.Best.TheVariants as best
 
 -- A held key is a record of the scores' map: `first` is its score, `second` its sequence number.
 pub record Heap : Type 0 where
@@ -29,10 +23,9 @@ abbrev pub entry_of : Record → Entry
 entry_of r = record { score = r.first; seq = r.second; key = r.key }
 
 -- "An entry is dead unless score and sequence equal those its key holds."
-abbrev pub matches : Taken → Entry → Bool
-matches (taken.Record r) e = eqb r.first e.score && eqb r.second e.seq
-matches taken.Nothing e = false
-matches taken.Refused e = false
+abbrev pub matches : Option Record → Entry → Bool
+matches (Some r) e = eqb r.first e.score && eqb r.second e.seq
+matches None e = false
 
 unfoldable pub live : List Record → Entry → Bool
 live held e = matches (lookup e.key held) e
@@ -100,15 +93,14 @@ too_many f h = ltb (at_least_one f * length h.held) (length h.entries)
 
 -- ---- the calls
 -- the score that a key holds
-abbrev pub held_score : Taken → Score
-held_score (taken.Record r) = score.Value r.first
-held_score taken.Nothing = score.Nothing
-held_score taken.Refused = score.Nothing
+abbrev pub held_score : Option Record → Option ℕ
+held_score (Some r) = Some r.first
+held_score None = None
 
 -- the key and score of the first live entry
-abbrev pub best_in : List Entry → Best
-best_in [] = best.Nothing
-best_in (e ∷ es) = best.Pair e.key e.score
+abbrev pub best_in : List Entry → Option (ℕ × ℕ)
+best_in [] = None
+best_in (e ∷ es) = Some (e.key, e.score)
 
 unfoldable pub opened : ℕ → ℕ → ℕ → Heap
 opened limit factor start = record { limit = limit; factor = at_least_one factor; next = start; held = []; entries = [] }
@@ -151,7 +143,7 @@ removed k h = record { limit = h.limit; factor = h.factor; next = h.next; held =
 abbrev pub stale : Heap → ℕ
 stale h = stale_before h.held h.entries
 
-abbrev pub best_of_heap : Heap → Best
+abbrev pub best_of_heap : Heap → Option (ℕ × ℕ)
 best_of_heap h = best_in (from_live h.held h.entries)
 
 -- "`peek_best` throws dead entries away until the least live one"

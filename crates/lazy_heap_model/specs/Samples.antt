@@ -1,11 +1,8 @@
 -- Worked examples: what samples B4, B5, B7 and B11 of document 01 come to on the heap, and `clear` and `pop_best` beside them.
-use Rattle.std.specs.Prelude.{cond, List, [], ◌∷◌, ℕ}
+use Rattle.std.specs.Prelude.{cond, List, [], ◌∷◌, ℕ, Option, Some, None, Result, Ok, Err}
+use Rattle.time.specs.declared.refusal.Refusal.{Refusal}
 use Rattle.time.specs.declared.refusal.Refusal.TheVariants.{KeyLimitReached}
 use Rattle.linked_hash_map.specs.Model.{lookup}
-use Rattle.lazy_heap_model.specs.declared.scores.Score.{Score}
-use Rattle.lazy_heap_model.specs.declared.scores.Score.TheVariants as score
-use Rattle.lazy_heap_model.specs.declared.scores.Best.{Best}
-use Rattle.lazy_heap_model.specs.declared.scores.Best.TheVariants as best
 use Rattle.lazy_heap_model.specs.Model.{Heap, heap_len, surplus, held_score, opened, is_full, updated, update_discards, removed, peeked, popped, rebuilt, cleared, stale, best_of_heap}
 
 pub data Call : Type 0 where
@@ -18,8 +15,8 @@ pub data Call : Type 0 where
   clear : Call
 
 pub data Answer : Type 0 where
-  holds : Score → Answer
-  first : Best → Answer
+  holds : Result (Option ℕ) Refusal → Answer
+  first : Option (ℕ × ℕ) → Answer
   done : Answer
 
 -- an answer, how many entries were discarded, and how many are in the heap after it
@@ -37,9 +34,9 @@ pub record Sample : Type 0 where
   pub told : List Told
 
 abbrev answer : Call → Heap → Answer
-answer (update k s) h = holds (cond (is_full k h) (score.Refused KeyLimitReached) (held_score (lookup k h.held)))
-answer (remove k) h = holds (held_score (lookup k h.held))
-answer (score_of k) h = holds (held_score (lookup k h.held))
+answer (update k s) h = holds (cond (is_full k h) (Err KeyLimitReached) (Ok (held_score (lookup k h.held))))
+answer (remove k) h = holds (Ok (held_score (lookup k h.held)))
+answer (score_of k) h = holds (Ok (held_score (lookup k h.held)))
 answer peek_best h = first (best_of_heap h)
 answer pop_best h = first (best_of_heap h)
 answer rebuild h = done
@@ -75,13 +72,13 @@ t a d e = record { answer = a; discarded = d; entries = e }
 
 -- the score that a call answers, or none; the first key with its score
 abbrev was : ℕ → Answer
-was s = holds (score.Value s)
+was s = holds (Ok (Some s))
 
 abbrev none : Answer
-none = holds score.Nothing
+none = holds (Ok None)
 
 abbrev due : ℕ → ℕ → Answer
-due k s = first (best.Pair k s)
+due k s = first (Some (k, s))
 
 abbrev pub samples : List Sample
 samples =
@@ -107,7 +104,7 @@ samples =
       factor = 2;
       start = 18446744073709551613;
       calls = update 7 100 ∷ update 8 100 ∷ update 9 100 ∷ peek_best ∷ pop_best ∷ pop_best ∷ pop_best ∷ pop_best ∷ [];
-      told = t none 0 1 ∷ t none 0 2 ∷ t none 0 3 ∷ t (due 7 100) 0 3 ∷ t (due 7 100) 0 2 ∷ t (due 8 100) 0 1 ∷ t (due 9 100) 0 0 ∷ t (first best.Nothing) 0 0 ∷ [];
+      told = t none 0 1 ∷ t none 0 2 ∷ t none 0 3 ∷ t (due 7 100) 0 3 ∷ t (due 7 100) 0 2 ∷ t (due 8 100) 0 1 ∷ t (due 9 100) 0 0 ∷ t (first None) 0 0 ∷ [];
     }
     -- B11: a key beyond the limit is refused, and taken after another was removed
     ∷ record {
@@ -115,7 +112,7 @@ samples =
       factor = 2;
       start = 0;
       calls = update 7 5 ∷ update 8 5 ∷ update 7 6 ∷ remove 7 ∷ update 8 9 ∷ score_of 8 ∷ pop_best ∷ [];
-      told = t none 0 1 ∷ t (holds (score.Refused KeyLimitReached)) 0 1 ∷ t (was 5) 0 2 ∷ t (was 6) 0 2 ∷ t none 2 1 ∷ t (was 9) 0 1 ∷ t (due 8 9) 0 0 ∷ [];
+      told = t none 0 1 ∷ t (holds (Err KeyLimitReached)) 0 1 ∷ t (was 5) 0 2 ∷ t (was 6) 0 2 ∷ t none 2 1 ∷ t (was 9) 0 1 ∷ t (due 8 9) 0 0 ∷ [];
     }
     -- an entry of the same score under an old number is stale, also after `clear`
     ∷ record {

@@ -1,7 +1,6 @@
 -- Worked examples: the edges of each limit, and exactly enough words or one less.
-use Rattle.std.specs.Prelude.{Bool, true, false, List, [], ◌∷◌, ℕ}
-use Rattle.time.specs.declared.refusal.Outcome.{Outcome}
-use Rattle.time.specs.declared.refusal.Outcome.TheVariants.{Done, Refused}
+use Rattle.std.specs.Prelude.{Bool, true, false, List, [], ◌∷◌, ℕ, Result, Ok, Err, ⊤}
+use Rattle.time.specs.declared.refusal.Refusal.{Refusal}
 use Rattle.time.specs.Refusal.{number_of}
 use Rattle.limits.specs.Limits.{map_fits, list_limits, heap_limits, heap_limits_with, book_limits}
 
@@ -23,9 +22,9 @@ pub record Sample : Type 0 where
   pub question : Question
   pub answer : Answer
 
-abbrev told : Outcome → Answer
-told Done = done
-told (Refused why) = refused (number_of why)
+abbrev told : Result ⊤ Refusal → Answer
+told (Ok u) = done
+told (Err why) = refused (number_of why)
 
 -- what the definitions say
 unfoldable pub answered : Question → Answer

@@ -7,13 +7,12 @@ use native.Mathlib.Omega.{arith}
 use lib.Dec.{eqb}
 use lib.ListN.{length, get_or}
 use borrow.Author.Tests.{lt-ltb, le-ltb}
+use Rattle.std.specs.Prelude.{Some, None}
 use Rattle.rings.proofs.Two.{count_le_one, two_frame}
 use Rattle.cells.specs.Cells.{key_at}
 use Rattle.cells.proofs.Indexing.{frame_words}
 use Rattle.linked_hash_map.specs.declared.map.LinkedHashMap.{LinkedHashMap}
 use Rattle.linked_hash_map.specs.declared.map.Record.{Record}
-use Rattle.linked_hash_map.specs.declared.map.Slot.TheVariants as slot
-use Rattle.linked_hash_map.specs.declared.map.Taken.TheVariants as taken
 use Rattle.linked_hash_map.specs.Words.{words_for, record_at}
 use Rattle.linked_hash_map.specs.Model.{Model, has, lookup, nth, without, Distinct}
 use Rattle.linked_hash_map.specs.Map.{IsMap, live_of, free_of, model_of, slot_in, slot_of, slot_at}
@@ -35,8 +34,8 @@ without_none k (r ∷ l) h = go (eqb r.key k) h (without_none k l)
 
 -- a key has a slot exactly where the model holds it
 pub data Keyed (ws : List ℕ) (m : LinkedHashMap) (k : ℕ) : Type 0 where
-  held : (s : ℕ) (r : Record) → slot_of ws m k ≡ slot.At s → lookup k (model_of ws m) ≡ taken.Record r → has k (model_of ws m) ≡ true → Keyed ws m k
-  absent : slot_of ws m k ≡ slot.Nothing → lookup k (model_of ws m) ≡ taken.Nothing → has k (model_of ws m) ≡ false → Keyed ws m k
+  held : (s : ℕ) (r : Record) → slot_of ws m k ≡ Some s → lookup k (model_of ws m) ≡ Some r → has k (model_of ws m) ≡ true → Keyed ws m k
+  absent : slot_of ws m k ≡ None → lookup k (model_of ws m) ≡ None → has k (model_of ws m) ≡ false → Keyed ws m k
 
 pub keyed : (ws : List ℕ) (m : LinkedHashMap) (k : ℕ) → Keyed ws m k
 unfolding slot_of model_of
@@ -47,33 +46,33 @@ keyed ws m k = go (search_key ws k (live_of ws m))
     go (missing none a b h) = absent a b h
 
 -- the key at a key's slot
-slot_found : (ws : List ℕ) (m : LinkedHashMap) (k s : ℕ) → slot_of ws m k ≡ slot.At s → Memᴰ s (live_of ws m) × (key_at ws s ≡ k)
+slot_found : (ws : List ℕ) (m : LinkedHashMap) (k s : ℕ) → slot_of ws m k ≡ Some s → Memᴰ s (live_of ws m) × (key_at ws s ≡ k)
 unfolding slot_of
 slot_found ws m k s e = go (search_key ws k (live_of ws m))
   where
     go : Search ws k (live_of ws m) → Memᴰ s (live_of ws m) × (key_at ws s ≡ k)
-    go (found x q d a b h) = let same : slot.At x ≡ slot.At s = sym a ∙ e in let is : x ≡ s = cc in (rw (sym is) q, ap (key_at ws) (sym is) ∙ d)
-    go (missing none a b h) = absurd (let no : slot.Nothing ≡ slot.At s = sym a ∙ e in let z : ◌≡◌ {A = ℕ} 0 1 = cc in omega arith)
+    go (found x q d a b h) = let same : Some x ≡ Some s = sym a ∙ e in let is : x ≡ s = cc in (rw (sym is) q, ap (key_at ws) (sym is) ∙ d)
+    go (missing none a b h) = absurd (let no : None ≡ Some s = sym a ∙ e in let z : ◌≡◌ {A = ℕ} 0 1 = cc in omega arith)
 
 -- different keys have different slots
-pub slot_key : (ws : List ℕ) (m : LinkedHashMap) (j k s : ℕ) → slot_of ws m j ≡ slot.At s → slot_of ws m k ≡ slot.At s → j ≡ k
+pub slot_key : (ws : List ℕ) (m : LinkedHashMap) (j k s : ℕ) → slot_of ws m j ≡ Some s → slot_of ws m k ≡ Some s → j ≡ k
 slot_key ws m j k s a b = sym (slot_found ws m j s a).1 ∙ (slot_found ws m k s b).1
 
 -- a place has a slot exactly where it is below the length
-pub place_taken : (ws : List ℕ) (m : LinkedHashMap) (i : ℕ) → i < m.len → slot_at ws m i ≡ slot.At (get_or (live_of ws m) i 0)
+pub place_taken : (ws : List ℕ) (m : LinkedHashMap) (i : ℕ) → i < m.len → slot_at ws m i ≡ Some (get_or (live_of ws m) i 0)
 unfolding slot_at
 place_taken ws m i h = rw (lt-ltb i m.len h)
 
-pub place_past : (ws : List ℕ) (m : LinkedHashMap) (i : ℕ) → m.len ≤ i → slot_at ws m i ≡ slot.Nothing
+pub place_past : (ws : List ℕ) (m : LinkedHashMap) (i : ℕ) → m.len ≤ i → slot_at ws m i ≡ None
 unfolding slot_at
 place_past ws m i h = rw (le-ltb i m.len h)
 
-pub place_below : (ws : List ℕ) (m : LinkedHashMap) (i s : ℕ) → slot_at ws m i ≡ slot.At s → i < m.len
+pub place_below : (ws : List ℕ) (m : LinkedHashMap) (i s : ℕ) → slot_at ws m i ≡ Some s → i < m.len
 place_below ws m i s e = (place_slot ws m i s e).0
 
 module _ {ws : List ℕ} {m : LinkedHashMap} (is : IsMap ws m) where
   -- a key's slot is one of the map's
-  pub slot_below : (k s : ℕ) → slot_of ws m k ≡ slot.At s → s < m.capacity
+  pub slot_below : (k s : ℕ) → slot_of ws m k ≡ Some s → s < m.capacity
   slot_below k s e = live_below (of_map is) (slot_found ws m k s e).0
 
   -- no two records of the model share a key
@@ -82,7 +81,7 @@ module _ {ws : List ℕ} {m : LinkedHashMap} (is : IsMap ws m) where
   map_distinct = records_distinct ws (live_of ws m) (count_le_one is.rings) is.index.apart
 
   -- the slot at a place is that of the key there
-  pub place_key : (i s : ℕ) (r : Record) → slot_at ws m i ≡ slot.At s → nth i (model_of ws m) ≡ taken.Record r → slot_of ws m r.key ≡ slot.At s
+  pub place_key : (i s : ℕ) (r : Record) → slot_at ws m i ≡ Some s → nth i (model_of ws m) ≡ Some r → slot_of ws m r.key ≡ Some s
   unfolding slot_of model_of
   place_key i s r e q = go (search_key ws r.key (live_of ws m))
     where
@@ -94,7 +93,7 @@ module _ {ws : List ℕ} {m : LinkedHashMap} (is : IsMap ws m) where
 
       same : record_at ws s ≡ r
       same =
-          let p : taken.Record (record_at ws s) ≡ taken.Record r = ap (λ (x : ℕ). taken.Record (record_at ws x)) (sym at.1) ∙ sym (record_at_lem ws (live_of ws m) i 0 below) ∙ q in
+          let p : Some (record_at ws s) ≡ Some r = ap (λ (x : ℕ). Some (record_at ws x)) (sym at.1) ∙ sym (record_at_lem ws (live_of ws m) i 0 below) ∙ q in
           cc
 
       live : Memᴰ s (live_of ws m)
@@ -103,8 +102,8 @@ module _ {ws : List ℕ} {m : LinkedHashMap} (is : IsMap ws m) where
       key : key_at ws s ≡ r.key
       key = ap (λ (x : Record). x.key) same
 
-      go : Search ws r.key (live_of ws m) → slot_in ws r.key (live_of ws m) ≡ slot.At s
-      go (found x p d a b h) = a ∙ ap slot.At (is.index.apart x s p live (d ∙ sym key))
+      go : Search ws r.key (live_of ws m) → slot_in ws r.key (live_of ws m) ≡ Some s
+      go (found x p d a b h) = a ∙ ap Some (is.index.apart x s p live (d ∙ sym key))
       go (missing none a b h) = absurd (none s live key)
 
   -- words past the map's own do not matter

@@ -5,15 +5,16 @@ use mathlib.Core.List.{List, [], ◌∷◌, map}
 use Prim.Native.Nat.{ℕ}
 use native.Mathlib.Omega.{arith}
 use lib.ListN.{length}
+use Rattle.std.specs.Prelude.{Ok}
 use Rattle.limits.specs.Limits.{map_fits}
 use Rattle.linked_hash_map.specs.declared.map.LinkedHashMap.{LinkedHashMap}
 use Rattle.linked_hash_map.specs.Words.{record_at, emptied, wiped}
 use Rattle.linked_hash_map.specs.Numbers.{empty_map}
 use Rattle.linked_hash_map.specs.Model.{Model}
 use Rattle.linked_hash_map.specs.Map.{IsMap, model_of}
-use Rattle.linked_hash_map.specs.Calls.{none, Opening, Clearing, Draining}
+use Rattle.linked_hash_map.specs.Calls.{unfit, Opening, Clearing, Draining}
 use Rattle.linked_hash_map.proofs.Limits.{is_room}
-use Rattle.linked_hash_map.proofs.Finding.{unfit}
+use Rattle.linked_hash_map.proofs.Probed.{misfit}
 use Rattle.linked_hash_map.proofs.Laid.{of_map, to_map, live_is}
 use Rattle.linked_hash_map.proofs.Refill.{laid_emptied, laid_wiped}
 use Rattle.linked_hash_map.proofs.Keeping.{kept_same, kept_emptied, kept_wiped}
@@ -26,23 +27,23 @@ module _ (ws : List ℕ) (n : ℕ) (f : map_fits n (length ws) ≡ true) where
   unfolding model_of
   empty_model = ap (map (record_at (emptied ws n))) (live_is (empty_map n) (laid_emptied ws n (is_room n (length ws) f)) refl)
 
-  pub opening : Opening ws n (emptied ws n) (record { map = empty_map n; is_open = true })
+  pub opening : Opening ws n (emptied ws n) (Ok (empty_map n))
   opening = record {
     refused = λ q. absurd (true≢false (sym f ∙ q));
     opened = λ _. refl;
-    capacity = λ _. refl;
-    map = λ _. empty_is_map;
-    model = λ _. empty_model;
+    capacity = refl;
+    map = empty_is_map;
+    model = empty_model;
     kept = kept_emptied n ws;
   }
 
-pub opening_refused : (ws : List ℕ) (n : ℕ) → map_fits n (length ws) ≡ false → Opening ws n ws (record { map = none; is_open = false })
+pub opening_refused : (ws : List ℕ) (n : ℕ) → map_fits n (length ws) ≡ false → Opening ws n ws unfit
 opening_refused ws n e = record {
   refused = λ _. (refl, refl);
   opened = λ q. absurd (true≢false (sym q ∙ e));
-  capacity = λ q. absurd (true≢false (sym q ∙ e));
-  map = λ q. absurd (true≢false (sym q ∙ e));
-  model = λ q. absurd (true≢false (sym q ∙ e));
+  capacity = tt;
+  map = tt;
+  model = tt;
   kept = kept_same n ws;
 }
 
@@ -58,32 +59,32 @@ module _ (ws : List ℕ) (m : LinkedHashMap) where
   unfolding model_of
   wiped_model is = ap (map (record_at (wiped ws m.capacity))) (live_is (empty_map m.capacity) (laid_wiped (of_map is)) refl)
 
-  pub clearing_wiped : map_fits m.capacity (length ws) ≡ true → Clearing ws m (wiped ws m.capacity) (record { map = empty_map m.capacity; is_open = true })
+  pub clearing_wiped : map_fits m.capacity (length ws) ≡ true → Clearing ws m (wiped ws m.capacity) (empty_map m.capacity) (Ok tt)
   clearing_wiped f = record {
     refused = λ q. absurd (true≢false (sym f ∙ q));
-    opened = λ _. refl;
+    cleared = λ _. refl;
     capacity = refl;
     map = wiped_is_map;
     model = wiped_model;
     kept = kept_wiped m.capacity ws;
   }
 
-  pub clearing_drained : map_fits m.capacity (length ws) ≡ true → {ws' : List ℕ} {r : LinkedHashMap} → Draining ws m 0 ws' r → Clearing ws m ws' (record { map = r; is_open = true })
+  pub clearing_drained : map_fits m.capacity (length ws) ≡ true → {ws' : List ℕ} {r : LinkedHashMap} → Draining ws m 0 ws' r → Clearing ws m ws' r (Ok tt)
   clearing_drained f {ws'} {r} d = record {
     refused = λ q. absurd (true≢false (sym f ∙ q));
-    opened = λ _. refl;
+    cleared = λ _. refl;
     capacity = d.capacity;
     map = d.map;
     model = λ is. none_left (model_of ws' r) (d.left is);
     kept = d.kept;
   }
 
-  pub clearing_refused : map_fits m.capacity (length ws) ≡ false → Clearing ws m ws (record { map = m; is_open = false })
+  pub clearing_refused : map_fits m.capacity (length ws) ≡ false → Clearing ws m ws m unfit
   clearing_refused e = record {
-    refused = λ _. (refl, refl);
-    opened = λ q. absurd (true≢false (sym q ∙ e));
+    refused = λ _. (refl, refl, refl);
+    cleared = λ q. absurd (true≢false (sym q ∙ e));
     capacity = refl;
-    map = λ is. absurd (unfit e is);
-    model = λ is. absurd (unfit e is);
+    map = λ is. absurd (misfit e is);
+    model = λ is. absurd (misfit e is);
     kept = kept_same m.capacity ws;
   }

@@ -9,6 +9,7 @@ use native.Mathlib.Omega.{arith}
 use lib.Dec.{ltb}
 use lib.ListN.{length, get_or, length-map}
 use borrow.Author.Tests.{lt-ltb, le-ltb}
+use Rattle.std.specs.Prelude.{Some, None, Ok, Err}
 use Rattle.limits.specs.Limits.{map_fits}
 use Rattle.rings.specs.Ring as ring
 use Rattle.rings.proofs.Counts.{by_lt, mem_without}
@@ -21,20 +22,18 @@ use Rattle.cells.proofs.Probing.{at_found, free_vacant}
 use Rattle.cells.proofs.Indexing.{erased_outside, never_full}
 use Rattle.linked_hash_map.specs.declared.map.LinkedHashMap.{LinkedHashMap}
 use Rattle.linked_hash_map.specs.declared.map.Record.{Record}
-use Rattle.linked_hash_map.specs.declared.map.Placed.TheVariants as placed
-use Rattle.linked_hash_map.specs.declared.map.Taken.TheVariants as taken
+use Rattle.linked_hash_map.specs.declared.map.PutError.TheVariants as failed
 use Rattle.linked_hash_map.specs.Words.{Kept, record_at, written, replaced, taken_out, put_in, refilled}
 use Rattle.linked_hash_map.specs.Numbers.{longer_map, shrunk_map, len_after, Grown, Inserting}
 use Rattle.linked_hash_map.specs.Model.{Model, has, lookup, without, placing, put}
 use Rattle.linked_hash_map.specs.Map.{IsMap, live_of, free_of, model_of}
-use Rattle.linked_hash_map.specs.Calls.{Putting, Removing}
+use Rattle.linked_hash_map.specs.Calls.{unfit, Putting, Removing}
 use Rattle.linked_hash_map.proofs.Records.{records, records_same, without_records, without_missing}
 use Rattle.linked_hash_map.proofs.Frames.{record_below, record_moved, record_written, record_written_other}
 use Rattle.linked_hash_map.proofs.Laid.{Laid, of_map, to_map, live_is, live_below, laid_front, laid_written, laid_taken, laid_put}
 use Rattle.linked_hash_map.proofs.Refill.{laid_refilled}
 use Rattle.linked_hash_map.proofs.Keeping.{kept_same, kept_then, kept_replaced, kept_taken, kept_put, kept_refilled, refilled_outside}
-use Rattle.linked_hash_map.proofs.Probed.{hit, miss, free_not_at, live_length}
-use Rattle.linked_hash_map.proofs.Finding.{unfit}
+use Rattle.linked_hash_map.proofs.Probed.{misfit, hit, miss, free_not_at, live_length}
 
 -- the model has as many records as the map says
 pub model_length : (ws : List ℕ) (m : LinkedHashMap) → length (model_of ws m) ≡ m.len
@@ -49,21 +48,21 @@ taken_record ws n c s y b h =
     ∙ record_below n ws (erased ws n c) (λ j q. erased_outside ws n c b j (inl q)) y h
 
 module _ {ws : List ℕ} {m : LinkedHashMap} (k : ℕ) where
-  pub removing_refused : map_fits m.capacity (length ws) ≡ false → Removing ws m k ws (record { map = m; answer = taken.Refused })
+  pub removing_refused : map_fits m.capacity (length ws) ≡ false → Removing ws m k ws m unfit
   removing_refused e = record {
-    refused = λ _. (refl, refl);
-    answer = λ is. absurd (unfit e is);
+    refused = λ _. (refl, refl, refl);
+    answer = λ is. absurd (misfit e is);
     capacity = refl;
     map = λ is. is;
-    model = λ is. absurd (unfit e is);
+    model = λ is. absurd (misfit e is);
     kept = kept_same m.capacity ws;
   }
 
-  pub removing_none : map_fits m.capacity (length ws) ≡ true → ((c s : ℕ) → probe ws m.capacity k ≡ probed.At c s → ⊥) → Removing ws m k ws (record { map = m; answer = taken.Nothing })
+  pub removing_none : map_fits m.capacity (length ws) ≡ true → ((c s : ℕ) → probe ws m.capacity k ≡ probed.At c s → ⊥) → Removing ws m k ws m (Ok None)
   unfolding model_of
   removing_none f none = record {
     refused = λ q. absurd (true≢false (sym f ∙ q));
-    answer = λ is. sym (miss is k none).look;
+    answer = λ is. ap Ok (sym (miss is k none).look);
     capacity = refl;
     map = λ is. is;
     model = λ is. sym (without_missing ws k (live_of ws m) (miss is k none).none);
@@ -77,11 +76,11 @@ module _ {ws : List ℕ} {m : LinkedHashMap} (k : ℕ) where
     taken_count : IsMap ws m → m.len - 1 ≡ length (ring.without s (live_of ws m))
     taken_count is = omega (arith, length_without_one is.rings (hit is k e).live, live_length ws m)
 
-    pub removing_at : Removing ws m k (taken_out ws m.capacity c s) (record { map = shrunk_map m; answer = taken.Record (record_at ws s) })
+    pub removing_at : Removing ws m k (taken_out ws m.capacity c s) (shrunk_map m) (Ok (Some (record_at ws s)))
     unfolding model_of shrunk_map
     removing_at = record {
       refused = λ q. absurd (true≢false (sym f ∙ q));
-      answer = λ is. sym (hit is k e).look;
+      answer = λ is. ap Ok (sym (hit is k e).look);
       capacity = refl;
       map = λ is. to_map (shrunk_map m) (taken_laid is) (taken_count is) is.opened;
       model = λ is.
@@ -99,19 +98,19 @@ pub in_front_lem : (ws ws' : List ℕ) (s : ℕ) (x : Record) (l : List ℕ) →
 in_front_lem ws ws' s x l at same = let ih : records ws' l ≡ records ws l = records_same ws ws' l same in cc
 
 module _ {ws : List ℕ} {m : LinkedHashMap} (x : Record) where
-  pub putting_refused : map_fits m.capacity (length ws) ≡ false → Putting ws m x ws (record { map = m; answer = placed.Refused })
+  pub putting_refused : map_fits m.capacity (length ws) ≡ false → Putting ws m x ws m (Err failed.Unfit)
   putting_refused e = record {
-    refused = λ _. (refl, refl);
-    answer = λ is. absurd (unfit e is);
+    refused = λ _. (refl, refl, refl);
+    answer = λ is. absurd (misfit e is);
     capacity = refl;
     map = λ is. is;
-    model = λ is. absurd (unfit e is);
+    model = λ is. absurd (misfit e is);
     full = λ q. (refl, refl);
     kept = kept_same m.capacity ws;
   }
 
   -- every cell holds a record: no map
-  pub putting_crowded : map_fits m.capacity (length ws) ≡ true → probe ws m.capacity x.key ≡ probed.Full → Putting ws m x ws (record { map = m; answer = placed.Full })
+  pub putting_crowded : map_fits m.capacity (length ws) ≡ true → probe ws m.capacity x.key ≡ probed.Full → Putting ws m x ws m (Err failed.Full)
   putting_crowded f e = record {
     refused = λ q. absurd (true≢false (sym f ∙ q));
     answer = λ is. absurd (never_full is.index x.key e);
@@ -132,7 +131,7 @@ module _ {ws : List ℕ} {m : LinkedHashMap} (x : Record) where
     replaced_count : IsMap ws m → m.len ≡ length (s ∷ ring.without s (live_of ws m))
     replaced_count is = omega (arith, length_without_one is.rings (hit is x.key e).live, live_length ws m)
 
-    pub putting_at : Putting ws m x (replaced ws m.capacity s x) (record { map = m; answer = placed.Replaced (record_at ws s) })
+    pub putting_at : Putting ws m x (replaced ws m.capacity s x) m (Ok (Some (record_at ws s)))
     unfolding model_of placing put replaced
     putting_at = record {
       refused = λ q. absurd (true≢false (sym f ∙ q));
@@ -154,7 +153,7 @@ module _ {ws : List ℕ} {m : LinkedHashMap} (x : Record) where
     }
 
 -- a new key with room
-placing_new : (n : ℕ) (x : Record) (m : Model) → lookup x.key m ≡ taken.Nothing → length m < n → placing n x m ≡ placed.Inserted
+placing_new : (n : ℕ) (x : Record) (m : Model) → lookup x.key m ≡ None → length m < n → placing n x m ≡ Ok None
 unfolding placing
 placing_new n x m e h = rw (e, lt-ltb (length m) n h)
 
@@ -220,7 +219,7 @@ module _ (ws : List ℕ) (m : LinkedHashMap) (x : Record) (c : ℕ) (f : map_fit
           rw q (head here)
 
   -- as many records as the capacity
-  pub putting_full : m.capacity ≤ m.len → Putting ws m x ws (record { map = m; answer = placed.Full })
+  pub putting_full : m.capacity ≤ m.len → Putting ws m x ws m (Err failed.Full)
   unfolding placing put
   putting_full h = record {
     refused = λ q. absurd (true≢false (sym f ∙ q));
@@ -233,7 +232,7 @@ module _ (ws : List ℕ) (m : LinkedHashMap) (x : Record) (c : ℕ) (f : map_fit
   }
 
   -- fewer, and no record free: no map
-  putting_nowhere : {r : LinkedHashMap} → r.capacity ≡ m.capacity → m.len < m.capacity → m.capacity ≤ ring.next ws (m.capacity + 1) → Putting ws m x ws (record { map = r; answer = placed.Inserted })
+  putting_nowhere : {r : LinkedHashMap} → r.capacity ≡ m.capacity → m.len < m.capacity → m.capacity ≤ ring.next ws (m.capacity + 1) → Putting ws m x ws r (Ok None)
   putting_nowhere {r} q b h = record {
     refused = λ q. absurd (true≢false (sym f ∙ q));
     answer = λ is. absurd (omega (arith, none_free is h));
@@ -286,7 +285,7 @@ module _ (ws : List ℕ) (m : LinkedHashMap) (x : Record) (c : ℕ) (f : map_fit
     room_left : IsMap ws m → length (model_of ws m) < m.capacity
     room_left is = omega (arith, model_length ws m, is.rings.size, live_length ws m, length_without_one (two_swap is.rings) (some_free is h))
 
-    putting_inserted : Putting ws m x ws' (record { map = r; answer = placed.Inserted })
+    putting_inserted : Putting ws m x ws' r (Ok None)
     unfolding model_of
     putting_inserted = record {
       refused = λ q. absurd (true≢false (sym f ∙ q));
@@ -304,12 +303,17 @@ module _ (ws : List ℕ) (m : LinkedHashMap) (x : Record) (c : ℕ) (f : map_fit
     }
 
   -- the insertion of a key whose probe offers cell c
-  pub putting_free : (ws' : List ℕ) (r : LinkedHashMap) → m.len < m.capacity → Inserting ws m x c ws' r → Putting ws m x ws' (record { map = longer_map m r.refill_in; answer = placed.Inserted })
+  pub putting_free : (ws' : List ℕ) (r : LinkedHashMap) → m.len < m.capacity → Inserting ws m x c ws' r → Putting ws m x ws' r (Ok None)
   unfolding longer_map
   putting_free ws' r b ins =
       by_lt (ring.next ws (m.capacity + 1)) m.capacity
-      (λ h.
-      let g = ins.grown h in
-      let e : ◌≡◌ {A = LinkedHashMap} (record { capacity = m.capacity; len = len_after m; refill_in = r.refill_in }) r = λ i. record { capacity = sym g.capacity i; len = sym g.count i; refill_in = r.refill_in } in
-      rw e (putting_inserted ws' r ins h))
-      (λ h. rw (ins.none h).1 (putting_nowhere refl b h))
+      (putting_inserted ws' r ins)
+      (λ h. rw (ins.none h).1 (putting_nowhere (ap (λ (y : LinkedHashMap). y.capacity) (ins.none h).0) b h))
+
+-- the numbers after an insertion, whatever the words
+pub inserted_numbers : {ws ws' : List ℕ} {m r : LinkedHashMap} {x : Record} {c : ℕ} → Inserting ws m x c ws' r → r ≡ longer_map m r.refill_in
+unfolding longer_map
+inserted_numbers {ws} {ws'} {m} {r} ins =
+    by_lt (ring.next ws (m.capacity + 1)) m.capacity
+    (λ h. let g = ins.grown h in λ i. record { capacity = g.capacity i; len = g.count i; refill_in = r.refill_in })
+    (λ h. let e = (ins.none h).0 in λ i. record { capacity = (e i).capacity; len = (e i).len; refill_in = r.refill_in })

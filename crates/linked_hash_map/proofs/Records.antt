@@ -14,12 +14,11 @@ use native.Mathlib.Omega.{arith}
 use lib.Dec.{eqb}
 use lib.ListN.{length, get_or}
 use borrow.Author.Tests.{eq-eqb, ne_eqb, eqb-true, eqb-false}
+use Rattle.std.specs.Prelude.{Some, None}
 use Rattle.cells.specs.Cells.{key_at}
 use Rattle.rings.specs.Ring as ring
 use Rattle.rings.proofs.Counts.{count_of_mem, bit_eq}
 use Rattle.linked_hash_map.specs.declared.map.Record.{Record}
-use Rattle.linked_hash_map.specs.declared.map.Slot.TheVariants as slot
-use Rattle.linked_hash_map.specs.declared.map.Taken.TheVariants as taken
 use Rattle.linked_hash_map.specs.Words.{record_at}
 use Rattle.linked_hash_map.specs.Model.{Model, has, lookup, nth, without, with_payload, Distinct}
 use Rattle.linked_hash_map.specs.Map.{slot_in}
@@ -34,8 +33,8 @@ Apart ws l = (r s : ℕ) → Memᴰ r l → Memᴰ s l → key_at ws r ≡ key_a
 
 -- what a search for a key among the slots of a list says of the records
 pub data Search (ws : List ℕ) (k : ℕ) (l : List ℕ) : Type 0 where
-  found : (s : ℕ) → Memᴰ s l → key_at ws s ≡ k → slot_in ws k l ≡ slot.At s → lookup k (records ws l) ≡ taken.Record (record_at ws s) → has k (records ws l) ≡ true → Search ws k l
-  missing : ((s : ℕ) → Memᴰ s l → key_at ws s ≡ k → ⊥) → slot_in ws k l ≡ slot.Nothing → lookup k (records ws l) ≡ taken.Nothing → has k (records ws l) ≡ false → Search ws k l
+  found : (s : ℕ) → Memᴰ s l → key_at ws s ≡ k → slot_in ws k l ≡ Some s → lookup k (records ws l) ≡ Some (record_at ws s) → has k (records ws l) ≡ true → Search ws k l
+  missing : ((s : ℕ) → Memᴰ s l → key_at ws s ≡ k → ⊥) → slot_in ws k l ≡ None → lookup k (records ws l) ≡ None → has k (records ws l) ≡ false → Search ws k l
 
 pub search_key : (ws : List ℕ) (k : ℕ) (l : List ℕ) → Search ws k l
 unfolding slot_in lookup has
@@ -116,7 +115,7 @@ records_distinct ws (x ∷ l) once apart =
         absurd (omega (arith, once s, count_of_mem q, bit_eq x s (sym is)))
 
 -- the record at a place of the list
-pub record_at_lem : (ws l : List ℕ) (i d : ℕ) → i < length l → nth i (records ws l) ≡ taken.Record (record_at ws (get_or l i d))
+pub record_at_lem : (ws l : List ℕ) (i d : ℕ) → i < length l → nth i (records ws l) ≡ Some (record_at ws (get_or l i d))
 unfolding nth
 record_at_lem ws [] i d h = absurd (not-suc-le-zero h)
 record_at_lem ws (x ∷ l) zero d h = refl

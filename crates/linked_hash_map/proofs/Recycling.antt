@@ -6,6 +6,7 @@ use mathlib.Core.List.{List, ◌∷◌, Memᴰ}
 use Prim.Native.Nat.{ℕ, ◌+◌, ◌*◌, ◌/◌, ◌%◌, ◌<◌}
 use native.Mathlib.Omega.{arith}
 use lib.ListN.{length}
+use Rattle.std.specs.Prelude.{Some, Ok}
 use Rattle.limits.specs.Limits.{map_fits}
 use Rattle.rings.specs.Ring as ring
 use Rattle.rings.proofs.Counts.{mem_without}
@@ -20,7 +21,6 @@ use Rattle.cells.proofs.Probing.{at_found, free_vacant}
 use Rattle.cells.proofs.Indexing.{erased_length, erased_outside, never_full}
 use Rattle.linked_hash_map.specs.declared.map.LinkedHashMap.{LinkedHashMap}
 use Rattle.linked_hash_map.specs.declared.map.Record.{Record}
-use Rattle.linked_hash_map.specs.declared.map.Taken.TheVariants as taken
 use Rattle.linked_hash_map.specs.Words.{record_at, taken_out, put_in}
 use Rattle.linked_hash_map.specs.Numbers.{shrunk_map, Grown, Renewing}
 use Rattle.linked_hash_map.specs.Model.{Model, has, without, recycled}
@@ -30,8 +30,7 @@ use Rattle.linked_hash_map.proofs.Records.{Search, found, missing, search_key, r
 use Rattle.linked_hash_map.proofs.Frames.{record_below, record_written, record_written_other}
 use Rattle.linked_hash_map.proofs.Laid.{Laid, of_map, to_map, live_is, live_below, laid_recycled}
 use Rattle.linked_hash_map.proofs.Keeping.{kept_same, kept_then, kept_erased, kept_put}
-use Rattle.linked_hash_map.proofs.Probed.{hit, miss, free_not_at, free_not_full, live_length}
-use Rattle.linked_hash_map.proofs.Finding.{unfit}
+use Rattle.linked_hash_map.proofs.Probed.{misfit, Ends, hit, miss, free_not_at, free_not_full, live_length}
 use Rattle.linked_hash_map.proofs.Putting.{removing_at, in_front_lem, put_record, grown_laid, grown_record, grown_kept}
 
 -- the model, by whether the new record's key is held beside the old one's
@@ -53,16 +52,16 @@ module _ {ws : List ℕ} {m : LinkedHashMap} (k : ℕ) (x : Record) where
     refused = λ _. (refl, refl);
     capacity = refl;
     map = λ is. is;
-    model = λ is. absurd (unfit e is);
+    model = λ is. absurd (misfit e is);
     kept = kept_same m.capacity ws;
   }
 
-  pub recycling_none : map_fits m.capacity (length ws) ≡ true → ((c s : ℕ) → probe ws m.capacity k ≡ probed.At c s → ⊥) → Recycling ws m k x ws m
-  recycling_none f none = record {
-    refused = λ q. absurd (true≢false (sym f ∙ q));
+  pub recycling_none : {r : Probe} → Ends ws m k r → ((c s : ℕ) → r ≡ probed.At c s → ⊥) → Recycling ws m k x ws m
+  recycling_none o none = record {
+    refused = λ q. absurd (true≢false (sym o.fits ∙ q));
     capacity = refl;
     map = λ is. is;
-    model = λ is. sym (recycled_none k x (model_of ws m) (miss is k none).held);
+    model = λ is. sym (recycled_none k x (model_of ws m) (miss is k (λ c s p. none c s (sym o.at ∙ p))).held);
     kept = kept_same m.capacity ws;
   }
 
@@ -77,7 +76,7 @@ module _ (ws : List ℕ) (m : LinkedHashMap) (k : ℕ) (x : Record) (c s : ℕ) 
   abbrev T : List ℕ
   T = taken_out ws n c s
 
-  out : Removing ws m k T (record { map = shrunk_map m; answer = taken.Record (record_at ws s) })
+  out : Removing ws m k T (shrunk_map m) (Ok (Some (record_at ws s)))
   out = removing_at k c s f e
 
   -- its cells are those with the record's cell emptied, since links alone differ

@@ -1,10 +1,8 @@
 -- The model: a list of records with different keys, front first. It knows nothing of words.
-use Rattle.std.specs.Prelude.{◌≡◌, Bool, false, cond, ◌||◌, List, [], ◌∷◌, ℕ, zero, suc, eqb, ltb, length}
+use Rattle.std.specs.Prelude.{◌≡◌, Bool, false, cond, ◌||◌, List, [], ◌∷◌, ℕ, zero, suc, eqb, ltb, length, Option, Some, None, Result, Ok, Err}
 use Rattle.linked_hash_map.specs.declared.map.Record.{Record}
-use Rattle.linked_hash_map.specs.declared.map.Placed.{Placed}
-use Rattle.linked_hash_map.specs.declared.map.Placed.TheVariants as placed
-use Rattle.linked_hash_map.specs.declared.map.Taken.{Taken}
-use Rattle.linked_hash_map.specs.declared.map.Taken.TheVariants as taken
+use Rattle.linked_hash_map.specs.declared.map.PutError.{PutError}
+use Rattle.linked_hash_map.specs.declared.map.PutError.TheVariants.{Full}
 
 abbrev pub Model : Type 0
 Model = List Record
@@ -15,14 +13,14 @@ has k [] = false
 has k (r ∷ m) = eqb r.key k || has k m
 
 -- the record of a key
-unfoldable pub lookup : ℕ → Model → Taken
-lookup k [] = taken.Nothing
-lookup k (r ∷ m) = cond (eqb r.key k) (taken.Record r) (lookup k m)
+unfoldable pub lookup : ℕ → Model → Option Record
+lookup k [] = None
+lookup k (r ∷ m) = cond (eqb r.key k) (Some r) (lookup k m)
 
 -- the i-th record from the front, counted from 0
-unfoldable pub nth : ℕ → Model → Taken
-nth i [] = taken.Nothing
-nth zero (r ∷ m) = taken.Record r
+unfoldable pub nth : ℕ → Model → Option Record
+nth i [] = None
+nth zero (r ∷ m) = Some r
 nth (suc i) (r ∷ m) = nth i m
 
 -- the model with no record of a key
@@ -31,10 +29,9 @@ without k [] = []
 without k (r ∷ m) = cond (eqb r.key k) (without k m) (r ∷ without k m)
 
 -- the record of a key in front of the others
-abbrev in_front : Taken → Model → Model → Model
-in_front (taken.Record r) rest m = r ∷ rest
-in_front taken.Nothing rest m = m
-in_front taken.Refused rest m = m
+abbrev in_front : Option Record → Model → Model → Model
+in_front (Some r) rest m = r ∷ rest
+in_front None rest m = m
 
 unfoldable pub to_front : ℕ → Model → Model
 to_front k m = in_front (lookup k m) (without k m) m
@@ -44,13 +41,12 @@ unfoldable pub with_payload : Record → Model → Model
 with_payload r [] = []
 with_payload r (s ∷ m) = cond (eqb s.key r.key) r s ∷ with_payload r m
 
--- a record put at the front of a model with room for n: the answer, and the model then
-abbrev placed_over : Taken → Bool → Placed
-placed_over (taken.Record r) room = placed.Replaced r
-placed_over taken.Nothing room = cond room placed.Inserted placed.Full
-placed_over taken.Refused room = placed.Refused
+-- a record put at the front of a model with room for n: the one that it replaces, or that there is no room; and the model then
+abbrev placed_over : Option Record → Bool → Result (Option Record) PutError
+placed_over (Some r) room = Ok (Some r)
+placed_over None room = cond room (Ok None) (Err Full)
 
-unfoldable pub placing : ℕ → Record → Model → Placed
+unfoldable pub placing : ℕ → Record → Model → Result (Option Record) PutError
 placing n r m = placed_over (lookup r.key m) (ltb (length m) n)
 
 unfoldable pub put : ℕ → Record → Model → Model

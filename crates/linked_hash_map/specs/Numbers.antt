@@ -1,12 +1,10 @@
 -- What the calls do to the numbers, and when the cells are entered anew.
-use Rattle.std.specs.Prelude.{◌≡◌, cond, List, ℕ, ◌+◌, ◌-◌, ◌*◌, ◌<◌, ◌≤◌, ltb}
+use Rattle.std.specs.Prelude.{◌≡◌, cond, List, ℕ, ◌+◌, ◌-◌, ◌*◌, ◌<◌, ◌≤◌, ltb, Option, Some, None}
 use Rattle.rings.specs.Ring.{next, moved}
 use Rattle.cells.specs.declared.Probe.TheVariants.{Free}
 use Rattle.cells.specs.Probe.{probe}
 use Rattle.linked_hash_map.specs.declared.map.LinkedHashMap.{LinkedHashMap}
 use Rattle.linked_hash_map.specs.declared.map.Record.{Record}
-use Rattle.linked_hash_map.specs.declared.map.Slot.{Slot}
-use Rattle.linked_hash_map.specs.declared.map.Slot.TheVariants.{At, Nothing}
 use Rattle.linked_hash_map.specs.Words.{refilled, put_in}
 
 -- the empty map's numbers
@@ -18,8 +16,8 @@ unfoldable pub shrunk_map : LinkedHashMap → LinkedHashMap
 shrunk_map m = record { capacity = m.capacity; len = m.len - 1; refill_in = m.refill_in }
 
 -- the slot that a link leads to
-unfoldable pub slot_from : ℕ → ℕ → Slot
-slot_from n x = cond (ltb x n) (At x) Nothing
+unfoldable pub slot_from : ℕ → ℕ → Option ℕ
+slot_from n x = cond (ltb x n) (Some x) None
 
 -- one record more
 unfoldable pub len_after : LinkedHashMap → ℕ
@@ -36,9 +34,9 @@ pub record Grown (ws : List ℕ) (m : LinkedHashMap) (k : ℕ) (ws' : List ℕ) 
   pub opened : 1 ≤ r.refill_in
   pub words : ws' ≡ cond (ltb 1 m.refill_in) ws (refilled ws m.capacity k)
 
--- an insertion with the cell to take in hand; where there is no free record, nothing
+-- an insertion with the cell to take in hand; where there is no free record, it counts and writes nothing
 pub record Inserting (ws : List ℕ) (m : LinkedHashMap) (x : Record) (c : ℕ) (ws' : List ℕ) (r : LinkedHashMap) : Type 0 where
-  pub none : m.capacity ≤ next ws (m.capacity + 1) → (r ≡ m) × (ws' ≡ ws)
+  pub none : m.capacity ≤ next ws (m.capacity + 1) → (r ≡ longer_map m m.refill_in) × (ws' ≡ ws)
   pub grown : next ws (m.capacity + 1) < m.capacity → Grown (put_in ws m.capacity c (next ws (m.capacity + 1)) x) m (len_after m) ws' r
 
 -- a record put over the one at slot s, which no cell holds; where its key is held, that one is free

@@ -24,4 +24,4 @@ mod index;
 mod links;
 mod map;
 
-pub use map::{LinkedHashMap, Opened, Place, Placed, Put, Record, Removed, Slot, Taken};
+pub use map::{LinkedHashMap, PutError, Record, Unfit};

@@ -1,15 +1,18 @@
 // The map's calls. Each is one probe and a few links.
-ghost use Rattle.std.specs.Prelude.{◌≡◌, ◌+◌, ◌-◌, ◌<◌, ◌≤◌, length};
+ghost use Rattle.std.specs.Prelude.{◌≡◌, ◌+◌, ◌-◌, ◌<◌, ◌≤◌, length, false, true, MatchResult};
+ghost use Rattle.limits.specs.Limits.{map_fits};
+ghost use Rattle.rings.specs.Ring.{moved};
 ghost use Rattle.cells.specs.Cells.{cell_count};
+ghost use Rattle.linked_hash_map.specs.declared.map.PutError.TheVariants as failed;
 ghost use Rattle.linked_hash_map.specs.Words.{Room, Nodes, record_at, written, emptied, wiped, refilled, replaced, taken_out};
-ghost use Rattle.linked_hash_map.specs.Numbers.{empty_map, shrunk_map, longer_map, slot_from, len_after, Grown, Inserting, Renewing};
-ghost use Rattle.linked_hash_map.specs.Calls.{Opening, Clearing, Draining, Finding, Touching, Reading, Writing, place_of, ReplacingAt, InsertingAt, TakingAt, Putting, Removing, Recycling, Ending, Next, Previous, Checking};
+ghost use Rattle.linked_hash_map.specs.Numbers.{empty_map, shrunk_map, slot_from, Grown, Inserting, Renewing};
+ghost use Rattle.linked_hash_map.specs.Calls.{Opening, Clearing, Draining, Finding, Touching, Reading, Writing, place_of, end_of, beside, ReplacingAt, InsertingAt, TakingAt, Putting, Removing, Recycling, Ending, Next, Previous, Checking};
 
 use crate::{check, index, links};
 use cells::Probe;
 
 // The map's numbers; all else is in the words.
-#[derive(Clone, Copy)]
+#[derive(Clone, Copy, Default)]
 pub struct LinkedHashMap {
     pub capacity: usize,
     pub len: usize,
@@ -17,94 +20,52 @@ pub struct LinkedHashMap {
     pub refill_in: usize,
 }
 
-#[derive(Clone, Copy)]
+#[derive(Clone, Copy, Default)]
 pub struct Record {
     pub key: u64,
     pub first: u64,
     pub second: u64,
 }
 
-// A record's place among the words, to read it or to walk on from it.
+// The capacity is above 4,096, or the words are too few for it.
 #[derive(Clone, Copy)]
-pub enum Slot {
-    At(usize),
-    Nothing,
-    // The capacity is above 4,096, or the words are too few for it.
-    Refused,
-}
-
-// Where a key's record is, or would go.
-#[derive(Clone, Copy)]
-pub enum Place {
-    // A cell, and the slot that it leads to.
-    At(usize, usize),
-    // A cell that may be taken.
-    Free(usize),
-    // Nowhere: every cell holds a record, as in no map.
-    Full,
-    Refused,
-}
+pub struct Unfit;
 
 #[derive(Clone, Copy)]
-pub enum Placed {
-    Inserted,
-    Replaced(Record),
+pub enum PutError {
     // The key is new, and there is no free record.
     Full,
-    Refused,
+    Unfit,
 }
 
-#[derive(Clone, Copy)]
-pub enum Taken {
-    Record(Record),
-    Nothing,
-    Refused,
-}
+impl From<Unfit> for PutError {
+    ghost from_gives = { λ _ e. e ≡ failed.Unfit };
 
-#[derive(Clone, Copy)]
-pub struct Opened {
-    pub map: LinkedHashMap,
-    pub is_open: bool,
-}
-
-#[derive(Clone, Copy)]
-pub struct Put {
-    pub map: LinkedHashMap,
-    pub answer: Placed,
-}
-
-#[derive(Clone, Copy)]
-pub struct Removed {
-    pub map: LinkedHashMap,
-    pub answer: Taken,
-}
-
-fn empty_map(capacity: usize) -> LinkedHashMap
-    requires { capacity ≤ 4096 }
-    ensures { result ≡ empty_map capacity }
-{
-    LinkedHashMap {
-        capacity,
-        len: 0,
-        refill_in: 6 * capacity + 96,
+    fn from(_unfit: Unfit) -> PutError {
+        PutError::Unfit
     }
 }
 
+// The two links of a node, as words of it.
+const PREVIOUS: usize = 3;
+
+const NEXT: usize = 4;
+
 // All records free, and no cell used, whatever the words held.
+#[tactic(auto, unfolding(crate::specs::Words::emptied), using(crate::proofs::Steps::filled_on, crate::proofs::Steps::filled_end))]
 fn empty_words(words: &mut [u64], n: usize)
     requires { Room (length words.old) n }
     ensures { words.new ≡ emptied words.old n }
 {
     links::close_rings(words, n + 2, n, n + 1);
-    let mut i = 0;
-    while i < n {
+    for i in 0..n {
         links::attach(words, n + 2, n + 1, i);
-        i += 1;
     }
     index::clear_cells(words, n);
 }
 
 // The same where the words are a map: its live ring goes to the free one whole, so that only the cells cost with n.
+#[tactic(auto, unfolding(crate::specs::Words::wiped))]
 fn wipe(words: &mut [u64], n: usize)
     requires { Room (length words.old) n }
     ensures { words.new ≡ wiped words.old n }
@@ -113,6 +74,7 @@ fn wipe(words: &mut [u64], n: usize)
     index::clear_cells(words, n);
 }
 
+#[tactic(auto, unfolding(crate::specs::Words::written))]
 fn write_record(words: &mut [u64], slot: usize, item: Record)
     requires { Nodes (length words.old) (slot + 1) }
     ensures { words.new ≡ written words.old slot item }
@@ -134,6 +96,7 @@ fn read_record(words: &[u64], slot: usize) -> Record
 }
 
 // Writes a record over the one at a slot, moves it to the front, and hands back the old one.
+#[tactic(auto, unfolding(crate::specs::Words::replaced))]
 fn replace(words: &mut [u64], n: usize, slot: usize, item: Record) -> Record
     requires { Room (length words.old) n × (slot < n) }
     ensures { (result ≡ record_at words.old slot) × (words.new ≡ replaced words.old n slot item) }
@@ -144,156 +107,119 @@ fn replace(words: &mut [u64], n: usize, slot: usize, item: Record) -> Record
     old
 }
 
-// Takes the record at a slot, and its cell, out of the map, and hands it back.
-fn take(words: &mut [u64], n: usize, cell: usize, slot: usize) -> Record
-    requires { Room (length words.old) n × (cell < cell_count n) × (slot < n) }
-    ensures { (result ≡ record_at words.old slot) × (words.new ≡ taken_out words.old n cell slot) }
-{
-    let old = read_record(words, slot);
-    index::erase(words, n, cell);
-    links::move_after(words, n + 2, n + 1, slot);
-    old
-}
-
 // Enters the live records anew, front first.
+#[tactic(auto, unfolding(crate::specs::Words::refilled), using(crate::proofs::Steps::entered_on, crate::proofs::Steps::entered_past, crate::proofs::Steps::entered_end))]
 fn refill(words: &mut [u64], n: usize, len: usize)
     requires { Room (length words.old) n }
     ensures { words.new ≡ refilled words.old n len }
 {
     index::clear_cells(words, n);
     let mut x = words[5 * n + 4] as usize;
-    let mut left = len;
-    while 0 < left {
+    for _ in 0..len {
         if n <= x {
             return;
         }
         index::enter(words, n, x);
         x = words[5 * x + 4] as usize;
-        left -= 1;
+    }
+}
+
+// Whether the capacity is within the limit, and the words are enough for it.
+#[tactic(auto, using(crate::proofs::Limits::is_room))]
+fn fits(words: &[u64], capacity: usize) -> Result<(), Unfit>
+    ensures { MatchResult result (λ _. (map_fits capacity (length words.now) ≡ true) × Room (length words.now) capacity) (λ _. map_fits capacity (length words.now) ≡ false) }
+{
+    if limits::map(capacity, words.len()) {
+        Ok(())
+    } else {
+        Err(Unfit)
     }
 }
 
 // The slot that a link leads to.
-fn slot_at(n: usize, x: u64) -> Slot
+#[tactic(auto, unfolding(crate::specs::Numbers::slot_from), using(crate::proofs::Steps::then_some_cond))]
+fn slot_from(n: usize, x: u64) -> Option<usize>
     ensures { result ≡ slot_from n x }
 {
-    if x < n as u64 {
-        Slot::At(x as usize)
-    } else {
-        Slot::Nothing
-    }
+    (x < n as u64).then_some(x as usize)
 }
 
 impl LinkedHashMap {
+    fn empty(capacity: usize) -> LinkedHashMap
+        requires { capacity ≤ 4096 }
+        ensures { result ≡ empty_map capacity }
+    {
+        LinkedHashMap {
+            capacity,
+            len: 0,
+            refill_in: 6 * capacity + 96,
+        }
+    }
+
     // The empty map, in words of any contents.
-    pub fn open(words: &mut [u64], capacity: usize) -> Opened
+    #[tactic(auto, using(crate::proofs::Opening::opening, crate::proofs::Opening::opening_refused, crate::proofs::Probed::err_unfit))]
+    pub fn open(words: &mut [u64], capacity: usize) -> Result<LinkedHashMap, Unfit>
         ensures { Opening words.old capacity words.new result }
     {
-        if !limits::map(capacity, words.len()) {
-            return Opened {
-                map: LinkedHashMap {
-                    capacity: 0,
-                    len: 0,
-                    refill_in: 0,
-                },
-                is_open: false,
-            };
-        }
+        fits(words, capacity)?;
         empty_words(words, capacity);
-        Opened {
-            map: empty_map(capacity),
-            is_open: true,
-        }
+        Ok(LinkedHashMap::empty(capacity))
     }
 
     // The empty map. Very few records are removed one by one, which costs less than to wipe all cells.
-    pub fn clear(self, words: &mut [u64]) -> Opened
-        ensures { Clearing words.old self words.new result }
+    #[tactic(auto, using(crate::proofs::Opening::clearing_refused, crate::proofs::Opening::clearing_drained, crate::proofs::Opening::clearing_wiped, crate::proofs::Probed::err_unfit))]
+    pub fn clear(&mut self, words: &mut [u64]) -> Result<(), Unfit>
+        ensures { Clearing words.old self.old words.new self.new result }
     {
-        let n = self.capacity;
-        if !limits::map(n, words.len()) {
-            return Opened {
-                map: self,
-                is_open: false,
-            };
+        fits(words, self.capacity)?;
+        if self.len <= self.capacity / 32 {
+            self.drain(words);
+        } else {
+            wipe(words, self.capacity);
+            *self = LinkedHashMap::empty(self.capacity);
         }
-        if self.len <= n / 32 {
-            return Opened {
-                map: self.drained(words),
-                is_open: true,
-            };
-        }
-        wipe(words, n);
-        Opened {
-            map: empty_map(n),
-            is_open: true,
+        Ok(())
+    }
+
+    // Removes the records, the first one first. The turns are counted by the numbers, so that it ends on any words.
+    #[tactic(auto, using(crate::proofs::Draining::drain_start, crate::proofs::Draining::drain_then))]
+    fn drain(&mut self, words: &mut [u64])
+        ensures { Draining words.old self.old 0 words.new self.new }
+    {
+        for _ in 0..self.len {
+            self.remove_first(words);
         }
     }
 
-    // The map with its records removed, the first one first. The turns are counted by the numbers, so that it ends on any
-    // words.
-    fn drained(self, words: &mut [u64]) -> LinkedHashMap
-        ensures { Draining words.old self 0 words.new result }
+    #[tactic(auto, using(crate::proofs::Draining::drain_first, crate::proofs::Draining::drain_none, crate::proofs::Draining::drain_found, crate::proofs::Draining::drain_lost))]
+    fn remove_first(&mut self, words: &mut [u64])
+        ensures { Draining words.old self.old (self.old.len - 1) words.new self.new }
     {
-        let mut map = self;
-        let mut left = self.len;
-        while 0 < left {
-            map = map.without_first(words);
-            left -= 1;
-        }
-        map
-    }
-
-    fn without_first(self, words: &mut [u64]) -> LinkedHashMap
-        ensures { Draining words.old self (self.len - 1) words.new result }
-    {
-        match self.first(words) {
-            Slot::At(s) => {
-                let front = self.record(words, s);
-                match self.seek(words, front.key) {
-                    Place::At(c, s) => {
-                        LinkedHashMap::take_at(words, self.capacity, c, s);
-                        self.shrunk()
-                    }
-                    Place::Free(_) => self,
-                    Place::Full => self,
-                    Place::Refused => self,
-                }
-            }
-            Slot::Nothing => self,
-            Slot::Refused => self,
+        if let Some(slot) = self.first(words).unwrap_or(None) {
+            let front = self.record(words, slot);
+            let _gone = self.remove(words, front.key);
         }
     }
 
-    pub fn find(self, words: &[u64], key: u64) -> Slot
+    pub fn find(self, words: &[u64], key: u64) -> Result<Option<usize>, Unfit>
         ensures { Finding words.now self key result }
     {
-        let n = self.capacity;
-        if !limits::map(n, words.len()) {
-            return Slot::Refused;
-        }
-        match index::probe(words, n, key) {
-            Probe::At(_, s) => Slot::At(s),
-            Probe::Free(_) => Slot::Nothing,
-            Probe::Full => Slot::Nothing,
+        match self.seek(words, key)? {
+            Probe::At(_, slot) => Ok(Some(slot)),
+            Probe::Free(_) | Probe::Full => Ok(None),
         }
     }
 
     // Moves the key's record to the front.
-    pub fn touch(self, words: &mut [u64], key: u64) -> Slot
+    pub fn touch(self, words: &mut [u64], key: u64) -> Result<Option<usize>, Unfit>
         ensures { Touching words.old self key words.new result }
     {
-        let n = self.capacity;
-        if !limits::map(n, words.len()) {
-            return Slot::Refused;
-        }
-        match index::probe(words, n, key) {
-            Probe::At(_, s) => {
-                links::move_after(words, n + 2, n, s);
-                Slot::At(s)
+        match self.seek(words, key)? {
+            Probe::At(_, slot) => {
+                links::move_after(words, self.capacity + 2, self.capacity, slot);
+                Ok(Some(slot))
             }
-            Probe::Free(_) => Slot::Nothing,
-            Probe::Full => Slot::Nothing,
+            Probe::Free(_) | Probe::Full => Ok(None),
         }
     }
 
@@ -301,357 +227,242 @@ impl LinkedHashMap {
     pub fn record(self, words: &[u64], slot: usize) -> Record
         ensures { Reading words.now self slot result }
     {
-        let n = self.capacity;
-        if limits::map(n, words.len()) {
-            if slot < n {
+        if slot < self.capacity {
+            if let Ok(()) = fits(words, self.capacity) {
                 return read_record(words, slot);
             }
         }
-        Record {
-            key: 0,
-            first: 0,
-            second: 0,
-        }
+        Record::default()
     }
 
     // Writes the key's payload, and says whether it is held.
     pub fn set_payload(self, words: &mut [u64], item: Record) -> bool
         ensures { Writing words.old self item words.new result }
     {
-        let n = self.capacity;
-        if !limits::map(n, words.len()) {
+        let Ok(place) = self.seek(words, item.key) else {
             return false;
-        }
-        match index::probe(words, n, item.key) {
-            Probe::At(_, s) => {
-                write_record(words, s, item);
+        };
+        match place {
+            Probe::At(_, slot) => {
+                write_record(words, slot, item);
                 true
             }
-            Probe::Free(_) => false,
-            Probe::Full => false,
+            Probe::Free(_) | Probe::Full => false,
         }
     }
 
     // For a call that goes on at the place, so that the key is looked for once.
-    pub fn seek(self, words: &[u64], key: u64) -> Place
+    #[tactic(auto, unfolding(crate::specs::Calls::place_of), using(crate::proofs::Probed::err_unfit))]
+    pub fn seek(self, words: &[u64], key: u64) -> Result<Probe, Unfit>
         ensures { result ≡ place_of words.now self key }
     {
-        let n = self.capacity;
-        if !limits::map(n, words.len()) {
-            return Place::Refused;
-        }
-        match index::probe(words, n, key) {
-            Probe::At(c, s) => Place::At(c, s),
-            Probe::Free(c) => Place::Free(c),
-            Probe::Full => Place::Full,
-        }
+        fits(words, self.capacity)?;
+        Ok(index::probe(words, self.capacity, key))
     }
 
     // Puts the record over the one of its key, which is at this slot, and hands that back. The numbers stay.
     pub fn replace_at(self, words: &mut [u64], slot: usize, item: Record) -> Record
         ensures { ReplacingAt words.old self slot item words.new result }
     {
-        let n = self.capacity;
-        if !limits::map(n, words.len()) {
-            return item;
-        }
-        if n <= slot {
-            return item;
-        }
-        replace(words, n, slot, item)
-    }
-
-    // Puts the record of a new key at the front, and its cell at c, where there are fewer records than the capacity. Answers the
-    // new `refill_in`; the numbers are then those of `lengthened`. It and `take_at` take and answer single numbers: a struct
-    // goes through memory, and its reader waits for it.
-    pub fn insert_at(
-        words: &mut [u64],
-        capacity: usize,
-        len: usize,
-        refill_in: usize,
-        c: usize,
-        key: u64,
-        first: u64,
-        second: u64,
-    ) -> usize
-        ensures { InsertingAt words.old (record { capacity = capacity; len = len; refill_in = refill_in }) c (record { key = key; first = first; second = second }) words.new result }
-    {
-        if !limits::map(capacity, words.len()) {
-            return refill_in;
-        }
-        if 12 * capacity + 192 <= c {
-            return refill_in;
-        }
-        let map = LinkedHashMap {
-            capacity,
-            len,
-            refill_in,
-        };
-        let grown = map.insert(words, Record { key, first, second }, c);
-        grown.refill_in
-    }
-
-    // Takes the record at this cell and slot out, and answers its first word. The numbers are then those of `shrunk`.
-    pub fn take_at(words: &mut [u64], capacity: usize, c: usize, slot: usize) -> u64
-        ensures { TakingAt words.old capacity c slot words.new result }
-    {
-        if !limits::map(capacity, words.len()) {
-            return 0;
-        }
-        if capacity <= slot {
-            return 0;
-        }
-        if 12 * capacity + 192 <= c {
-            return 0;
-        }
-        let gone = take(words, capacity, c, slot);
-        gone.first
-    }
-
-    // Puts the record at the front, in the place of its key's old one where there is one.
-    pub fn put(self, words: &mut [u64], item: Record) -> Put
-        ensures { Putting words.old self item words.new result }
-    {
-        match self.seek(words, item.key) {
-            Place::At(_, s) => Put {
-                map: self,
-                answer: Placed::Replaced(self.replace_at(words, s, item)),
-            },
-            Place::Free(c) => {
-                if self.len < self.capacity {
-                    let refill_in = LinkedHashMap::insert_at(
-                        words,
-                        self.capacity,
-                        self.len,
-                        self.refill_in,
-                        c,
-                        item.key,
-                        item.first,
-                        item.second,
-                    );
-                    return Put {
-                        map: self.lengthened(refill_in),
-                        answer: Placed::Inserted,
-                    };
-                }
-                Put {
-                    map: self,
-                    answer: Placed::Full,
-                }
+        if slot < self.capacity {
+            if let Ok(()) = fits(words, self.capacity) {
+                return replace(words, self.capacity, slot, item);
             }
-            Place::Full => Put {
-                map: self,
-                answer: Placed::Full,
-            },
-            Place::Refused => Put {
-                map: self,
-                answer: Placed::Refused,
-            },
+        }
+        item
+    }
+
+    // Puts the record of a new key at the front, and its cell at this one, where there are fewer records than the capacity.
+    pub fn insert_at(&mut self, words: &mut [u64], cell: usize, item: Record)
+        ensures { InsertingAt words.old self.old cell item words.new self.new }
+    {
+        if let Ok(()) = fits(words, self.capacity) {
+            if cell < 12 * self.capacity + 192 {
+                self.insert(words, cell, item);
+            }
+        }
+    }
+
+    // Takes the record at this cell and slot out, and answers its first word.
+    #[tactic(auto, using(crate::proofs::Places::taking_unfit, crate::proofs::Places::taking_past, crate::proofs::Places::taking_beyond, crate::proofs::Places::taking_at))]
+    pub fn take_at(&mut self, words: &mut [u64], cell: usize, slot: usize) -> u64
+        ensures { TakingAt words.old self.old cell slot words.new self.new result }
+    {
+        if let Ok(()) = fits(words, self.capacity) {
+            if slot < self.capacity && cell < 12 * self.capacity + 192 {
+                return self.take(words, cell, slot).first;
+            }
+        }
+        0
+    }
+
+    // Puts the record at the front, in the place of its key's old one where there is one, and hands that back.
+    #[tactic(auto, using(crate::proofs::Places::put_over, crate::proofs::Places::put_full, crate::proofs::Places::put_refused))]
+    pub fn put(&mut self, words: &mut [u64], item: Record) -> Result<Option<Record>, PutError>
+        ensures { Putting words.old self.old item words.new self.new result }
+    {
+        match self.seek(words, item.key)? {
+            Probe::At(_, slot) => Ok(Some(self.replace_at(words, slot, item))),
+            Probe::Free(cell) if self.len < self.capacity => {
+                self.insert_at(words, cell, item);
+                Ok(None)
+            }
+            Probe::Free(_) => Err(PutError::Full),
+            // Every cell holds a record, as in no map.
+            Probe::Full => Err(PutError::Full),
         }
     }
 
     // The same, on words that have room and with a cell that they have.
-    fn insert(self, words: &mut [u64], item: Record, c: usize) -> LinkedHashMap
-        requires { Room (length words.old) self.capacity × (c < cell_count self.capacity) }
-        ensures { Inserting words.old self item c words.new result }
+    fn insert(&mut self, words: &mut [u64], cell: usize, item: Record)
+        requires { Room (length words.old) self.old.capacity × (cell < cell_count self.old.capacity) }
+        ensures { Inserting words.old self.old item cell words.new self.new }
     {
         let n = self.capacity;
+        self.len = if self.len < n { self.len + 1 } else { n };
         let x = words[5 * n + 9];
         if n as u64 <= x {
-            return self;
+            return;
         }
         let s = x as usize;
         write_record(words, s, item);
-        index::set_cell(words, n, c, x + 1);
+        index::set_cell(words, n, cell, x + 1);
         links::move_after(words, n + 2, n, s);
-        self.grown(words)
+        self.count_insertion(words);
     }
 
-    // The numbers after an insertion, and now and then the cells anew.
-    fn grown(self, words: &mut [u64]) -> LinkedHashMap
-        requires { Room (length words.old) self.capacity }
-        ensures { Grown words.old self (len_after self) words.new result }
+    // Counts the insertions, and now and then enters the records in the cells anew.
+    fn count_insertion(&mut self, words: &mut [u64])
+        requires { Room (length words.old) self.old.capacity }
+        ensures { Grown words.old self.old self.old.len words.new self.new }
+    {
+        if 1 < self.refill_in {
+            self.refill_in -= 1;
+            return;
+        }
+        refill(words, self.capacity, self.len);
+        self.refill_in = 6 * self.capacity + 96;
+    }
+
+    pub fn remove(&mut self, words: &mut [u64], key: u64) -> Result<Option<Record>, Unfit>
+        ensures { Removing words.old self.old key words.new self.new result }
+    {
+        match self.seek(words, key)? {
+            Probe::At(cell, slot) => Ok(Some(self.take(words, cell, slot))),
+            Probe::Free(_) | Probe::Full => Ok(None),
+        }
+    }
+
+    // Takes the record at a slot, and its cell, out of the map, and hands it back.
+    #[tactic(auto, unfolding(crate::specs::Words::taken_out))]
+    fn take(&mut self, words: &mut [u64], cell: usize, slot: usize) -> Record
+        requires { Room (length words.old) self.old.capacity × (cell < cell_count self.old.capacity) × (slot < self.old.capacity) }
+        ensures record { result ≡ record_at words.old slot }
+        ensures words { words.new ≡ taken_out words.old self.old.capacity cell slot }
+        ensures numbers { self.new ≡ shrunk_map self.old }
     {
         let n = self.capacity;
-        let len = if self.len < n { self.len + 1 } else { n };
-        let refill_in = self.refill_in;
-        if 1 < refill_in {
-            return LinkedHashMap {
-                capacity: n,
-                len,
-                refill_in: refill_in - 1,
-            };
-        }
-        refill(words, n, len);
-        LinkedHashMap {
-            capacity: n,
-            len,
-            refill_in: 6 * n + 96,
-        }
-    }
-
-    pub fn remove(self, words: &mut [u64], key: u64) -> Removed
-        ensures { Removing words.old self key words.new result }
-    {
-        match self.seek(words, key) {
-            Place::At(c, s) => Removed {
-                map: self.shrunk(),
-                answer: Taken::Record(take(words, self.capacity, c, s)),
-            },
-            Place::Free(_) => Removed {
-                map: self,
-                answer: Taken::Nothing,
-            },
-            Place::Full => Removed {
-                map: self,
-                answer: Taken::Nothing,
-            },
-            Place::Refused => Removed {
-                map: self,
-                answer: Taken::Refused,
-            },
-        }
+        let old = read_record(words, slot);
+        index::erase(words, n, cell);
+        self.free(words, slot);
+        old
     }
 
     // Takes a key's record out and puts another in its place, at the front; where that one's key is held, nowhere. It is
     // what `remove` and `put` would do, but the record stays in its ring.
-    pub fn recycle(self, words: &mut [u64], key: u64, item: Record) -> LinkedHashMap
-        ensures { Recycling words.old self key item words.new result }
+    pub fn recycle(&mut self, words: &mut [u64], key: u64, item: Record)
+        ensures { Recycling words.old self.old key item words.new self.new }
     {
-        let n = self.capacity;
-        if !limits::map(n, words.len()) {
-            return self;
-        }
-        match index::probe(words, n, key) {
-            Probe::At(c, s) => {
-                index::erase(words, n, c);
-                self.renew(words, item, s)
+        let Ok(place) = self.seek(words, key) else {
+            return;
+        };
+        match place {
+            Probe::At(cell, slot) => {
+                index::erase(words, self.capacity, cell);
+                self.renew(words, item, slot);
             }
-            Probe::Free(_) => self,
-            Probe::Full => self,
+            Probe::Free(_) | Probe::Full => {}
         }
     }
 
     // Puts a record at the front, over the one at a slot that no cell holds.
-    fn renew(self, words: &mut [u64], item: Record, slot: usize) -> LinkedHashMap
-        requires { Room (length words.old) self.capacity × (slot < self.capacity) }
-        ensures { Renewing words.old self item slot words.new result }
+    #[tactic(auto, using(crate::proofs::Putting::put_in_lem, cells::proofs::Probing::free_vacant))]
+    fn renew(&mut self, words: &mut [u64], item: Record, slot: usize)
+        requires { Room (length words.old) self.old.capacity × (slot < self.old.capacity) }
+        ensures { Renewing words.old self.old item slot words.new self.new }
     {
         let n = self.capacity;
         match index::probe(words, n, item.key) {
-            Probe::Free(c) => {
+            Probe::Free(cell) => {
                 write_record(words, slot, item);
-                index::set_cell(words, n, c, slot as u64 + 1);
+                index::set_cell(words, n, cell, slot as u64 + 1);
                 links::move_after(words, n + 2, n, slot);
-                self.renewed(words)
+                self.count_insertion(words);
             }
-            Probe::At(_, _) => {
-                links::move_after(words, n + 2, n + 1, slot);
-                self.shrunk()
-            }
-            Probe::Full => {
-                links::move_after(words, n + 2, n + 1, slot);
-                self.shrunk()
-            }
+            Probe::At(_, _) | Probe::Full => self.free(words, slot),
         }
     }
 
-    // As `grown`, with no record more.
-    fn renewed(self, words: &mut [u64]) -> LinkedHashMap
-        requires { Room (length words.old) self.capacity }
-        ensures { Grown words.old self self.len words.new result }
+    // Puts the record at a slot among the free ones.
+    #[tactic(auto, unfolding(crate::specs::Numbers::shrunk_map))]
+    fn free(&mut self, words: &mut [u64], slot: usize)
+        requires { Room (length words.old) self.old.capacity × (slot < self.old.capacity) }
+        ensures words { words.new ≡ moved (self.old.capacity + 2) words.old (self.old.capacity + 1) slot }
+        ensures numbers { self.new ≡ shrunk_map self.old }
     {
-        let n = self.capacity;
-        let len = self.len;
-        let refill_in = self.refill_in;
-        if 1 < refill_in {
-            return LinkedHashMap {
-                capacity: n,
-                len,
-                refill_in: refill_in - 1,
-            };
-        }
-        refill(words, n, len);
-        LinkedHashMap {
-            capacity: n,
-            len,
-            refill_in: 6 * n + 96,
-        }
+        links::move_after(words, self.capacity + 2, self.capacity + 1, slot);
+        self.len = self.len.saturating_sub(1);
     }
 
-    // The numbers with one record more.
-    pub fn lengthened(self, refill_in: usize) -> LinkedHashMap
-        ensures { result ≡ longer_map self refill_in }
-    {
-        let capacity = self.capacity;
-        let len = if self.len < capacity {
-            self.len + 1
-        } else {
-            capacity
-        };
-        LinkedHashMap {
-            capacity,
-            len,
-            refill_in,
-        }
-    }
-
-    // The numbers with one record less.
-    pub fn shrunk(self) -> LinkedHashMap
-        ensures { result ≡ shrunk_map self }
-    {
-        let len = if 0 < self.len { self.len - 1 } else { 0 };
-        LinkedHashMap {
-            capacity: self.capacity,
-            len,
-            refill_in: self.refill_in,
-        }
-    }
-
-    pub fn first(self, words: &[u64]) -> Slot
+    #[tactic(auto, using(crate::proofs::Walking::first_is))]
+    pub fn first(self, words: &[u64]) -> Result<Option<usize>, Unfit>
         ensures { Ending words.now self 0 result }
     {
-        let n = self.capacity;
-        if !limits::map(n, words.len()) {
-            return Slot::Refused;
-        }
-        slot_at(n, words[5 * n + 4])
+        self.end(words, NEXT)
     }
 
-    pub fn last(self, words: &[u64]) -> Slot
+    #[tactic(auto, using(crate::proofs::Walking::last_is))]
+    pub fn last(self, words: &[u64]) -> Result<Option<usize>, Unfit>
         ensures { Ending words.now self (self.len - 1) result }
     {
-        let n = self.capacity;
-        if !limits::map(n, words.len()) {
-            return Slot::Refused;
-        }
-        slot_at(n, words[5 * n + 3])
+        self.end(words, PREVIOUS)
     }
 
-    pub fn next(self, words: &[u64], slot: usize) -> Slot
+    #[tactic(auto, using(crate::proofs::Walking::next_is))]
+    pub fn next(self, words: &[u64], slot: usize) -> Result<Option<usize>, Unfit>
         ensures { Next words.now self slot result }
     {
-        let n = self.capacity;
-        if !limits::map(n, words.len()) {
-            return Slot::Refused;
-        }
-        if n <= slot {
-            return Slot::Nothing;
-        }
-        slot_at(n, words[5 * slot + 4])
+        self.beside(words, slot, NEXT)
     }
 
-    pub fn previous(self, words: &[u64], slot: usize) -> Slot
+    #[tactic(auto, using(crate::proofs::Walking::previous_is))]
+    pub fn previous(self, words: &[u64], slot: usize) -> Result<Option<usize>, Unfit>
         ensures { Previous words.now self slot result }
     {
-        let n = self.capacity;
-        if !limits::map(n, words.len()) {
-            return Slot::Refused;
+        self.beside(words, slot, PREVIOUS)
+    }
+
+    // The slot to which a link of the live ring's own node leads.
+    #[tactic(auto, unfolding(crate::specs::Calls::end_of), using(crate::proofs::Probed::err_unfit))]
+    fn end(self, words: &[u64], link: usize) -> Result<Option<usize>, Unfit>
+        requires { link < 5 }
+        ensures { result ≡ end_of words.now self link }
+    {
+        fits(words, self.capacity)?;
+        Ok(slot_from(self.capacity, words[5 * self.capacity + link]))
+    }
+
+    // The slot to which a record's link leads.
+    #[tactic(auto, unfolding(crate::specs::Calls::beside), using(crate::proofs::Probed::err_unfit))]
+    fn beside(self, words: &[u64], slot: usize, link: usize) -> Result<Option<usize>, Unfit>
+        requires { link < 5 }
+        ensures { result ≡ beside words.now self slot link }
+    {
+        fits(words, self.capacity)?;
+        if self.capacity <= slot {
+            return Ok(None);
         }
-        if n <= slot {
-            return Slot::Nothing;
-        }
-        slot_at(n, words[5 * slot + 3])
+        Ok(slot_from(self.capacity, words[5 * slot + link]))
     }
 
     // Whether words and numbers form a map.

@@ -1,8 +1,8 @@
 -- Durations and lifetimes: document 01, "time.rs", and the standard library's documentation of `Duration`.
-use Rattle.std.specs.Prelude.{ℕ, ◌+◌, ◌-◌, ◌*◌, ◌/◌, ◌^◌, min, Bool, cond, ◌==◌, nat_lt}
+use Rattle.std.specs.Prelude.{ℕ, ◌+◌, ◌-◌, ◌*◌, ◌/◌, ◌^◌, min, Bool, cond, ◌==◌, nat_lt, Result, Ok, Err}
 use Rattle.time.specs.declared.duration.Duration.{Duration}
-use Rattle.time.specs.declared.duration.Ticked.{Ticked}
-use Rattle.time.specs.declared.duration.Ticked.TheVariants.{Ticks, Refused}
+use Rattle.time.specs.declared.duration.TtlTicks.{TtlTicks}
+use Rattle.time.specs.declared.refusal.Refusal.{Refusal}
 use Rattle.time.specs.declared.refusal.Refusal.TheVariants.{InvalidNanos}
 
 -- two numbers from outside as a duration: nanoseconds are 32 bits, and larger ones are the largest of these, which is no
@@ -28,5 +28,5 @@ unfoldable pub is_duration : Duration → Bool
 is_duration d = nat_lt d.nanos 1000000000
 
 -- a lifetime in ticks of a millisecond; refusal 3 for what is no duration
-unfoldable pub ticks_of : Duration → Ticked
-ticks_of d = cond (is_duration d) (Ticks (record { 0 = millis_of d })) (Refused InvalidNanos)
+unfoldable pub ticks_of : Duration → Result TtlTicks Refusal
+ticks_of d = cond (is_duration d) (Ok (record { 0 = millis_of d })) (Err InvalidNanos)

@@ -1,8 +1,8 @@
 -- Worked examples: sample B10 of document 01, and the edges of rounding and of the caps.
-use Rattle.std.specs.Prelude.{ℕ, Bool, true, false, List, [], ◌∷◌}
+use Rattle.std.specs.Prelude.{ℕ, Bool, true, false, List, [], ◌∷◌, Result, Ok, Err}
 use Rattle.time.specs.declared.duration.Duration.{Duration}
-use Rattle.time.specs.declared.duration.Ticked.{Ticked}
-use Rattle.time.specs.declared.duration.Ticked.TheVariants.{Ticks, Refused}
+use Rattle.time.specs.declared.duration.TtlTicks.{TtlTicks}
+use Rattle.time.specs.declared.refusal.Refusal.{Refusal}
 use Rattle.time.specs.declared.tick.Tick.{Tick}
 use Rattle.time.specs.Duration.{is_zero, ticks_of}
 use Rattle.time.specs.Deadline.{deadline_from, is_expired_at}
@@ -22,9 +22,9 @@ pub record Sample : Type 0 where
   pub question : Question
   pub answer : Answer
 
-abbrev answer_to : Ticked → Duration → Tick → Answer
-answer_to (Ticks l) d t = lasts (is_zero d) l.0 (deadline_from t l).0 (is_expired_at (deadline_from t l) t)
-answer_to (Refused why) d t = refused
+abbrev answer_to : Result TtlTicks Refusal → Duration → Tick → Answer
+answer_to (Ok l) d t = lasts (is_zero d) l.0 (deadline_from t l).0 (is_expired_at (deadline_from t l) t)
+answer_to (Err why) d t = refused
 
 -- what the definitions say
 unfoldable pub answered : Question → Answer

@@ -1,21 +1,14 @@
 // A clock that moves only when its owner says so.
 ghost use Rattle.std.specs.Prelude.{◌≡◌};
-ghost use Rattle.time.specs.Clock.{clock_at, advanced};
+ghost use Rattle.time.specs.Clock.{clock_at, advanced, outcome_of, clock_after};
 
-use crate::duration::{Duration, NANOS_PER_SEC, TtlTicks};
-use crate::refusal::{Outcome, Refusal};
+use crate::duration::{Duration, duration_to_ticks};
+use crate::refusal::Refusal;
 use crate::tick::Tick;
 
 #[derive(Clone, Copy)]
 pub struct MockClock {
     pub tick: Tick,
-}
-
-// A clock after a step, and what the step answers.
-#[derive(Clone, Copy)]
-pub struct Advanced {
-    pub clock: MockClock,
-    pub outcome: Outcome,
 }
 
 impl MockClock {
@@ -45,22 +38,14 @@ impl MockClock {
     }
 
     // Moves on by the whole milliseconds of `delta`, and ends at most at u64::MAX - 1, even from u64::MAX.
-    #[tactic(auto, unfolding(crate::specs::Duration::is_duration, crate::specs::Clock::advanced))]
-    pub fn advance(self, delta: Duration) -> Advanced
+    #[tactic(auto, unfolding(crate::specs::Duration::ticks_of, crate::specs::Clock::advanced))]
+    pub fn advance(self, delta: Duration) -> Result<MockClock, Refusal>
         ensures { result ≡ advanced self delta }
     {
-        if delta.nanos < NANOS_PER_SEC {
-            let tick = self.tick;
-            let reached = tick.deadline_from(TtlTicks(delta.as_millis()));
-            return Advanced {
-                clock: MockClock { tick: reached },
-                outcome: Outcome::Done,
-            };
-        }
-        Advanced {
-            clock: self,
-            outcome: Outcome::Refused(Refusal::InvalidNanos),
-        }
+        let ticks = duration_to_ticks(delta)?;
+        Ok(MockClock {
+            tick: self.tick.deadline_from(ticks),
+        })
     }
 }
 
@@ -72,10 +57,10 @@ pub fn set(clock: &mut MockClock, tick: Tick)
 }
 
 // The owner's clock, lent to be moved on. A refused step leaves it as it was.
-pub fn advance(clock: &mut MockClock, delta: Duration) -> Outcome
-    ensures { record { clock = clock.new; outcome = result } ≡ advanced clock.old delta }
+pub fn advance(clock: &mut MockClock, delta: Duration) -> Result<(), Refusal>
+    ensures outcome { result ≡ outcome_of (advanced clock.old delta) }
+    ensures reached { clock.new ≡ clock_after clock.old (advanced clock.old delta) }
 {
-    let step = clock.advance(delta);
-    *clock = step.clock;
-    step.outcome
+    *clock = clock.advance(delta)?;
+    Ok(())
 }

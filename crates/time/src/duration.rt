@@ -21,59 +21,44 @@ pub struct Duration {
 #[derive(Clone, Copy)]
 pub struct TtlTicks(pub u64);
 
-#[derive(Clone, Copy)]
-pub enum Ticked {
-    Ticks(TtlTicks),
-    Refused(Refusal),
-}
-
 impl Duration {
     // Of two numbers from outside. Nanoseconds beyond 32 bits are taken for the largest of 32 bits, which is refused too.
     pub fn of(secs: u64, nanos: u64) -> Duration
         ensures { result ≡ duration_of secs nanos }
     {
-        if nanos < 4_294_967_295 {
-            return Duration {
-                secs,
-                nanos: nanos as u32,
-            };
-        }
         Duration {
             secs,
-            nanos: 4_294_967_295,
+            nanos: u32::try_from(nanos).unwrap_or(u32::MAX),
         }
     }
 
     // Exactly zero: 999,999 nanoseconds are not, though they have 0 ticks.
+    #[tactic(auto, unfolding(crate::specs::Duration::is_zero))]
     pub fn is_zero(self) -> bool
         ensures { result ≡ is_zero self }
     {
-        if self.secs == 0 {
-            return self.nanos == 0;
-        }
-        false
+        self.secs == 0 && self.nanos == 0
     }
 
     // The whole milliseconds, at most u64::MAX. (`as_millis` answers a u128.)
+    #[tactic(auto, unfolding(crate::specs::Duration::millis_of))]
     pub fn as_millis(self) -> u64
         ensures { result ≡ millis_of self }
     {
-        let secs = self.secs;
         let rest = (self.nanos / NANOS_PER_MILLI) as u64;
-        if secs <= (u64::MAX - rest) / MILLIS_PER_SEC {
-            return secs * MILLIS_PER_SEC + rest;
-        }
-        u64::MAX
+        self.secs
+            .saturating_mul(MILLIS_PER_SEC)
+            .saturating_add(rest)
     }
 }
 
 // The lifetime that a duration stands for.
 #[tactic(auto, unfolding(crate::specs::Duration::is_duration, crate::specs::Duration::ticks_of))]
-pub fn duration_to_ticks(duration: Duration) -> Ticked
+pub fn duration_to_ticks(duration: Duration) -> Result<TtlTicks, Refusal>
     ensures { result ≡ ticks_of duration }
 {
     if duration.nanos < NANOS_PER_SEC {
-        return Ticked::Ticks(TtlTicks(duration.as_millis()));
+        return Ok(TtlTicks(duration.as_millis()));
     }
-    Ticked::Refused(Refusal::InvalidNanos)
+    Err(Refusal::InvalidNanos)
 }

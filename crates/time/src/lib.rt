@@ -12,7 +12,7 @@ mod duration;
 mod refusal;
 mod tick;
 
-pub use clock::{Advanced, MockClock, advance, set};
-pub use duration::{Duration, Ticked, TtlTicks, duration_to_ticks};
-pub use refusal::{Outcome, Refusal};
-pub use tick::{Remaining, Tick};
+pub use clock::{MockClock, advance, set};
+pub use duration::{Duration, TtlTicks, duration_to_ticks};
+pub use refusal::Refusal;
+pub use tick::Tick;

@@ -2,39 +2,25 @@
 ghost use Rattle.std.specs.Prelude.{◌≡◌};
 ghost use Rattle.time.specs.Refusal.{number_of};
 
-#[derive(Clone, Copy)]
+#[derive(Clone, Copy, PartialEq, Eq)]
 pub enum Refusal {
     // A capacity above 4,096, a key limit outside 1..4,096, or numbers that no accepted opening hands back.
-    LimitOutOfRange,
-    TooFewWords,
+    LimitOutOfRange = 1,
+    TooFewWords = 2,
     // A duration with 1,000,000,000 nanoseconds or more.
-    InvalidNanos,
+    InvalidNanos = 3,
     // A new key where as many are held as the limit allows.
-    KeyLimitReached,
+    KeyLimitReached = 4,
     // A rebuild factor above 8.
-    FactorTooLarge,
+    FactorTooLarge = 5,
     // A session line that is no form.
-    MalformedLine,
-}
-
-// The answer of a call that has nothing else to say.
-#[derive(Clone, Copy)]
-pub enum Outcome {
-    Done,
-    Refused(Refusal),
+    MalformedLine = 6,
 }
 
 impl Refusal {
     pub fn number(self) -> u64
         ensures { result ≡ number_of self }
     {
-        match self {
-            Refusal::LimitOutOfRange => 1,
-            Refusal::TooFewWords => 2,
-            Refusal::InvalidNanos => 3,
-            Refusal::KeyLimitReached => 4,
-            Refusal::FactorTooLarge => 5,
-            Refusal::MalformedLine => 6,
-        }
+        self as u64
     }
 }

@@ -7,14 +7,8 @@ use crate::duration::TtlTicks;
 // u64::MAX stands for "never" in the source, so no deadline and no advanced clock reaches it.
 const LAST_TICK: u64 = u64::MAX - 1;
 
-#[derive(Clone, Copy)]
+#[derive(Clone, Copy, PartialEq, Eq, PartialOrd, Ord)]
 pub struct Tick(pub u64);
-
-#[derive(Clone, Copy)]
-pub enum Remaining {
-    Expired,
-    Live(TtlTicks),
-}
 
 impl Tick {
     pub fn as_u64(self) -> u64
@@ -24,37 +18,29 @@ impl Tick {
     }
 
     // The deadline of a lifetime that starts at this tick.
+    #[tactic(auto, unfolding(crate::specs::Deadline::deadline_from))]
     pub fn deadline_from(self, ttl: TtlTicks) -> Tick
         ensures { result ≡ deadline_from self ttl }
     {
-        let start = self.0;
-        let ticks = ttl.0;
-        if start <= LAST_TICK {
-            if ticks <= LAST_TICK - start {
-                return Tick(start + ticks);
-            }
-        }
-        Tick(LAST_TICK)
+        Tick(self.0.saturating_add(ttl.0).min(LAST_TICK))
     }
 
     // Whether a deadline at this tick has come when the clock reads `tick`.
+    #[tactic(auto, unfolding(crate::specs::Deadline::is_expired_at))]
     pub fn is_expired_at(self, tick: Tick) -> bool
         ensures { result ≡ is_expired_at self tick }
     {
-        let deadline = self.0;
-        let reading = tick.0;
-        deadline <= reading
+        self <= tick
     }
 
-    // What is left of a deadline at this tick when the clock reads `tick`.
-    pub fn remaining_at(self, tick: Tick) -> Remaining
+    // What is left of a deadline at this tick when the clock reads `tick`: nothing once it has come.
+    #[tactic(auto, unfolding(crate::specs::Deadline::is_expired_at, crate::specs::Deadline::remaining_at))]
+    pub fn remaining_at(self, tick: Tick) -> Option<TtlTicks>
         ensures { result ≡ remaining_at self tick }
     {
-        let deadline = self.0;
-        let reading = tick.0;
-        if deadline <= reading {
-            return Remaining::Expired;
+        if self.is_expired_at(tick) {
+            return None;
         }
-        Remaining::Live(TtlTicks(deadline - reading))
+        Some(TtlTicks(self.0 - tick.0))
     }
 }

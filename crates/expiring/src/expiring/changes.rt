@@ -4,50 +4,33 @@ ghost use Rattle.expiring_model.specs.Model.{set, drop, get, remove, insert, ins
 ghost use Rattle.fast_lru_model.specs.Model.{without};
 ghost use Rattle.expiring.specs.Numbers.{book_in, with_expiration};
 ghost use Rattle.expiring.specs.Calls.{SettingTtl};
-ghost use Rattle.expiring.specs.Changes.{Ready, Stay, reply_in, too_few_numbers, Setting, Dropping, Putting, Taking, Concluding, Changing};
+ghost use Rattle.expiring.specs.Changes.{Ready, Stay, reply_in, admitted, saying, Setting, Dropping, Getting, Putting, Taking, Concluding, Changing};
 ghost use Rattle.expiring.specs.Steps.{Moved, Inserting, Removing};
 
 use crate::answers::Reply;
-use crate::expiring::saturating_sum;
 use crate::numbers;
-use expiration_index::Deadline;
-use expiring_answers::{has_come, is_accepted, of_found};
-use expiring_model::{Answer, DefaultTtl};
-use fast_lru_model::Found;
-use time::{Duration, Outcome, Refusal, Tick, Ticked, TtlTicks};
-
-// The answer of a call, and how many entries of the heap it discarded. The book's numbers after it are in their words.
-#[derive(Clone, Copy)]
-pub struct Said {
-    pub answer: Answer,
-    pub discarded: usize,
-}
-
-// A key's deadline before it was set, or a refusal.
-#[derive(Clone, Copy)]
-struct Redated {
-    old: Deadline,
-    discarded: usize,
-}
+use expiring_answers::{has_come, of_found};
+use expiring_model::Answer;
+use lazy_heap_model::Counted;
+use time::{Duration, Refusal, Tick, TtlTicks};
 
 // What a call on the book's own struct replies.
-pub fn reply_in(numbers: &[u64], said: Said) -> Reply
+pub fn reply_in(numbers: &[u64], said: Counted<Answer>) -> Reply
     requires { 12 ≤ length numbers.now }
     ensures { result ≡ reply_in numbers.now said }
 {
-    let book = numbers::book_in(numbers);
-    let answer = said.answer;
     Reply {
-        book,
-        answer,
+        book: numbers::book_in(numbers),
+        answer: said.answer,
         discarded: said.discarded,
     }
 }
 
-fn answering(answer: Answer) -> Said
-    ensures { result ≡ record { answer = answer; discarded = 0 } }
+// An answer of a call that discarded nothing.
+fn saying(answer: Answer) -> Counted<Answer>
+    ensures { result ≡ saying answer }
 {
-    Said {
+    Counted {
         answer,
         discarded: 0,
     }
@@ -55,57 +38,61 @@ fn answering(answer: Answer) -> Said
 
 // ---- steps
 
-fn set_deadline(numbers: &mut [u64], words: &mut [u64], key: u64, deadline: Tick) -> Redated
+fn set_deadline(
+    numbers: &mut [u64],
+    words: &mut [u64],
+    key: u64,
+    deadline: Tick,
+) -> Result<Counted<Option<Tick>>, Refusal>
     requires { Ready numbers.old (length words.old) }
     ensures { Setting numbers.old words.old key deadline numbers.new words.new result }
 {
-    let book = numbers::book_in(numbers);
+    let mut index = numbers::index_in(numbers);
     let start = 64 + 8 * numbers[0] as usize;
-    let changed = book.index.set_deadline(&mut words[start..], key, deadline);
-    let index = changed.index;
-    let old = changed.answer;
+    let dated = index.set_deadline(&mut words[start..], key, deadline);
     numbers::store_index(numbers, index);
-    Redated {
-        old,
-        discarded: changed.discarded,
-    }
+    dated
 }
 
-fn drop_deadline(numbers: &mut [u64], words: &mut [u64], key: u64) -> Deadline
+fn drop_deadline(numbers: &mut [u64], words: &mut [u64], key: u64) -> Option<Tick>
     requires { Ready numbers.old (length words.old) }
     ensures { Dropping numbers.old words.old key numbers.new words.new result }
 {
-    let book = numbers::book_in(numbers);
+    let mut index = numbers::index_in(numbers);
     let start = 64 + 8 * numbers[0] as usize;
-    let changed = book.index.remove(&mut words[start..], key);
-    let index = changed.index;
-    let old = changed.answer;
+    let removed = index.remove(&mut words[start..], key).unwrap();
     numbers::store_held(numbers, index);
-    old
+    removed.answer
 }
 
-fn put_value(numbers: &mut [u64], words: &mut [u64], key: u64, value: u64) -> Found
+fn get_value(numbers: &mut [u64], words: &mut [u64], key: u64) -> Option<u64>
+    requires { 12 ≤ length numbers.old }
+    ensures { Getting numbers.old words.old key numbers.new words.new result }
+{
+    let mut list = numbers::list_in(numbers);
+    let found = list.get(words, key);
+    numbers::store_list(numbers, list);
+    found.unwrap_or(None)
+}
+
+fn put_value(numbers: &mut [u64], words: &mut [u64], key: u64, value: u64) -> Option<u64>
     requires { 12 ≤ length numbers.old }
     ensures { Putting numbers.old words.old key value numbers.new words.new result }
 {
-    let book = numbers::book_in(numbers);
-    let put = book.inner.insert(words, key, value);
-    let inner = put.lru;
-    let found = put.answer;
-    numbers::store_list(numbers, inner);
-    found
+    let mut list = numbers::list_in(numbers);
+    let replaced = list.insert(words, key, value);
+    numbers::store_list(numbers, list);
+    replaced.unwrap_or(None)
 }
 
-fn drop_value(numbers: &mut [u64], words: &mut [u64], key: u64) -> Found
+fn drop_value(numbers: &mut [u64], words: &mut [u64], key: u64) -> Option<u64>
     requires { 12 ≤ length numbers.old }
     ensures { Taking numbers.old words.old key numbers.new words.new result }
 {
-    let book = numbers::book_in(numbers);
-    let removed = book.inner.remove(words, key);
-    let inner = removed.lru;
-    let found = removed.answer;
-    numbers::store_list(numbers, inner);
-    found
+    let mut list = numbers::list_in(numbers);
+    let removed = list.remove(words, key);
+    numbers::store_list(numbers, list);
+    removed.unwrap_or(None)
 }
 
 // One expiration more; the count stops at u64::MAX.
@@ -113,11 +100,11 @@ fn count_expiration(numbers: &mut [u64])
     requires { 12 ≤ length numbers.old }
     ensures { numbers.new ≡ with_expiration numbers.old }
 {
-    numbers[11] = saturating_sum(numbers[11], 1);
+    numbers[11] = numbers[11].saturating_add(1);
 }
 
-// The answer is what the list found of the key, unless its old deadline had come.
-fn concluded(numbers: &mut [u64], found: Found, old: Deadline, tick: Tick) -> Answer
+// The answer is the value that the list had for the key, unless the key's old deadline had come.
+fn concluded(numbers: &mut [u64], found: Option<u64>, old: Option<Tick>, tick: Tick) -> Answer
     requires { 12 ≤ length numbers.old }
     ensures { Concluding numbers.old found old tick numbers.new result }
 {
@@ -145,47 +132,44 @@ fn insert_until(
     key: u64,
     value: u64,
     deadline: Tick,
-) -> Said
+) -> Counted<Answer>
     requires { Ready numbers.old (length words.old) }
     ensures { Stay numbers.old numbers.new × Inserting words.old (book_in numbers.old) tick key value (set key deadline) words.new (reply_in numbers.new result) }
 {
-    let dated = set_deadline(numbers, words, key, deadline);
-    let old = dated.old;
-    if !is_accepted(old) {
-        return Said {
-            answer: Answer::Refused(Refusal::KeyLimitReached),
-            discarded: 0,
-        };
-    }
-    let found = put_value(numbers, words, key, value);
-    Said {
-        answer: concluded(numbers, found, old, tick),
-        discarded: dated.discarded,
+    match set_deadline(numbers, words, key, deadline) {
+        Err(why) => saying(Answer::Refused(why)),
+        Ok(dated) => {
+            let found = put_value(numbers, words, key, value);
+            Counted {
+                answer: concluded(numbers, found, dated.answer, tick),
+                discarded: dated.discarded,
+            }
+        }
     }
 }
 
-fn insert_forever(numbers: &mut [u64], words: &mut [u64], tick: Tick, key: u64, value: u64) -> Said
+fn insert_forever(
+    numbers: &mut [u64],
+    words: &mut [u64],
+    tick: Tick,
+    key: u64,
+    value: u64,
+) -> Counted<Answer>
     requires { Ready numbers.old (length words.old) }
     ensures { Stay numbers.old numbers.new × Inserting words.old (book_in numbers.old) tick key value (drop key) words.new (reply_in numbers.new result) }
 {
     let old = drop_deadline(numbers, words, key);
     let found = put_value(numbers, words, key, value);
-    Said {
-        answer: concluded(numbers, found, old, tick),
-        discarded: 0,
-    }
+    saying(concluded(numbers, found, old, tick))
 }
 
-fn remove_within(numbers: &mut [u64], words: &mut [u64], tick: Tick, key: u64) -> Said
+fn remove_within(numbers: &mut [u64], words: &mut [u64], tick: Tick, key: u64) -> Counted<Answer>
     requires { Ready numbers.old (length words.old) }
     ensures { Stay numbers.old numbers.new × Removing words.old (book_in numbers.old) tick key words.new (reply_in numbers.new result) }
 {
     let old = drop_deadline(numbers, words, key);
     let found = drop_value(numbers, words, key);
-    Said {
-        answer: concluded(numbers, found, old, tick),
-        discarded: 0,
-    }
+    saying(concluded(numbers, found, old, tick))
 }
 
 // A new lifetime of so many ticks removes the key.
@@ -197,99 +181,85 @@ fn set_ttl_within(
     tick: Tick,
     key: u64,
     ticks: TtlTicks,
-) -> Said
+) -> Counted<Answer>
     requires { Ready numbers.old (length words.old) }
     ensures { Stay numbers.old numbers.new × SettingTtl words.old (book_in numbers.old) tick key ticks words.new (reply_in numbers.new result) }
 {
     let book = numbers::book_in(numbers);
     if !book.is_stored(words, key) {
-        return answering(Answer::No);
+        return saying(Answer::No);
     }
     if book.is_expired(words, tick, key) {
         drop_both(numbers, words, key);
         count_expiration(numbers);
-        return answering(Answer::No);
+        return saying(Answer::No);
     }
     if ticks.0 == NO_TICKS {
         drop_both(numbers, words, key);
-        return answering(Answer::No);
+        return saying(Answer::No);
     }
-    let dated = set_deadline(numbers, words, key, tick.deadline_from(ticks));
-    let old = dated.old;
-    if !is_accepted(old) {
-        return answering(Answer::Refused(Refusal::KeyLimitReached));
-    }
-    Said {
-        answer: Answer::Yes,
-        discarded: dated.discarded,
+    match set_deadline(numbers, words, key, tick.deadline_from(ticks)) {
+        Err(why) => saying(Answer::Refused(why)),
+        Ok(dated) => Counted {
+            answer: Answer::Yes,
+            discarded: dated.discarded,
+        },
     }
 }
 
 // ---- the calls. Any numbers may be handed to them: fewer than twelve are refused as too few words.
 
-fn too_few_numbers() -> Said
-    ensures { result ≡ too_few_numbers }
+fn admitted(numbers: &[u64], size: usize) -> Result<(), Refusal>
+    ensures { result ≡ admitted numbers.now size }
 {
-    answering(Answer::Refused(Refusal::TooFewWords))
+    if numbers.len() < 12 {
+        return Err(Refusal::TooFewWords);
+    }
+    limits::book(numbers[0] as usize, numbers[3] as usize, size)
 }
 
 // It moves the key to the front; an expired one it removes.
-pub fn get(numbers: &mut [u64], words: &mut [u64], tick: Tick, key: u64) -> Said
+pub fn get(numbers: &mut [u64], words: &mut [u64], tick: Tick, key: u64) -> Counted<Answer>
     ensures { Changing numbers.old words.old tick (get key) numbers.new words.new result }
 {
-    if numbers.len() < 12 {
-        return too_few_numbers();
+    if let Err(why) = admitted(numbers, words.len()) {
+        return saying(Answer::Refused(why));
     }
     let book = numbers::book_in(numbers);
-    match book.limits(words.len()) {
-        Outcome::Refused(why) => answering(Answer::Refused(why)),
-        Outcome::Done => {
-            if book.is_expired(words, tick, key) {
-                drop_both(numbers, words, key);
-                count_expiration(numbers);
-                return answering(Answer::Nothing);
-            }
-            let got = book.inner.get(words, key);
-            let inner = got.lru;
-            let answer = got.answer;
-            numbers::store_list(numbers, inner);
-            answering(of_found(answer))
-        }
+    if book.is_expired(words, tick, key) {
+        drop_both(numbers, words, key);
+        count_expiration(numbers);
+        return saying(Answer::Nothing);
     }
+    saying(of_found(get_value(numbers, words, key)))
 }
 
-pub fn remove(numbers: &mut [u64], words: &mut [u64], tick: Tick, key: u64) -> Said
+pub fn remove(numbers: &mut [u64], words: &mut [u64], tick: Tick, key: u64) -> Counted<Answer>
     ensures { Changing numbers.old words.old tick (remove key) numbers.new words.new result }
 {
-    if numbers.len() < 12 {
-        return too_few_numbers();
+    if let Err(why) = admitted(numbers, words.len()) {
+        return saying(Answer::Refused(why));
     }
-    let book = numbers::book_in(numbers);
-    match book.limits(words.len()) {
-        Outcome::Refused(why) => answering(Answer::Refused(why)),
-        Outcome::Done => remove_within(numbers, words, tick, key),
-    }
+    remove_within(numbers, words, tick, key)
 }
 
 // With the default lifetime, or with none.
-pub fn insert(numbers: &mut [u64], words: &mut [u64], tick: Tick, key: u64, value: u64) -> Said
+pub fn insert(
+    numbers: &mut [u64],
+    words: &mut [u64],
+    tick: Tick,
+    key: u64,
+    value: u64,
+) -> Counted<Answer>
     ensures { Changing numbers.old words.old tick (insert key value) numbers.new words.new result }
 {
-    if numbers.len() < 12 {
-        return too_few_numbers();
+    if let Err(why) = admitted(numbers, words.len()) {
+        return saying(Answer::Refused(why));
     }
     let book = numbers::book_in(numbers);
-    match book.limits(words.len()) {
-        Outcome::Refused(why) => answering(Answer::Refused(why)),
-        Outcome::Done => {
-            let default_ttl = book.default_ttl;
-            match default_ttl {
-                DefaultTtl::Of(ttl) => {
-                    insert_until(numbers, words, tick, key, value, tick.deadline_from(ttl))
-                }
-                DefaultTtl::Nothing => insert_forever(numbers, words, tick, key, value),
-            }
-        }
+    match book.default_ttl {
+        Some(ttl) => insert_until(numbers, words, tick, key, value, tick.deadline_from(ttl)),
+        None => insert_forever(numbers, words, tick, key, value),
     }
 }
 
@@ -301,40 +271,38 @@ pub fn insert_with_ttl(
     key: u64,
     value: u64,
     ttl: Duration,
-) -> Said
+) -> Counted<Answer>
     ensures { Changing numbers.old words.old tick (insert_with_ttl key value ttl) numbers.new words.new result }
 {
-    if numbers.len() < 12 {
-        return too_few_numbers();
+    if let Err(why) = admitted(numbers, words.len()) {
+        return saying(Answer::Refused(why));
     }
-    let book = numbers::book_in(numbers);
-    match book.limits(words.len()) {
-        Outcome::Refused(why) => answering(Answer::Refused(why)),
-        Outcome::Done => match time::duration_to_ticks(ttl) {
-            Ticked::Refused(why) => answering(Answer::Refused(why)),
-            Ticked::Ticks(ticks) => {
-                if ttl.is_zero() {
-                    return remove_within(numbers, words, tick, key);
-                }
-                insert_until(numbers, words, tick, key, value, tick.deadline_from(ticks))
+    match time::duration_to_ticks(ttl) {
+        Err(why) => saying(Answer::Refused(why)),
+        Ok(ticks) => {
+            if ttl.is_zero() {
+                return remove_within(numbers, words, tick, key);
             }
-        },
+            insert_until(numbers, words, tick, key, value, tick.deadline_from(ticks))
+        }
     }
 }
 
 // 0 ticks remove the key.
-pub fn set_ttl(numbers: &mut [u64], words: &mut [u64], tick: Tick, key: u64, ttl: Duration) -> Said
+pub fn set_ttl(
+    numbers: &mut [u64],
+    words: &mut [u64],
+    tick: Tick,
+    key: u64,
+    ttl: Duration,
+) -> Counted<Answer>
     ensures { Changing numbers.old words.old tick (set_ttl key ttl) numbers.new words.new result }
 {
-    if numbers.len() < 12 {
-        return too_few_numbers();
+    if let Err(why) = admitted(numbers, words.len()) {
+        return saying(Answer::Refused(why));
     }
-    let book = numbers::book_in(numbers);
-    match book.limits(words.len()) {
-        Outcome::Refused(why) => answering(Answer::Refused(why)),
-        Outcome::Done => match time::duration_to_ticks(ttl) {
-            Ticked::Refused(why) => answering(Answer::Refused(why)),
-            Ticked::Ticks(ticks) => set_ttl_within(numbers, words, tick, key, ticks),
-        },
+    match time::duration_to_ticks(ttl) {
+        Err(why) => saying(Answer::Refused(why)),
+        Ok(ticks) => set_ttl_within(numbers, words, tick, key, ticks),
     }
 }

@@ -2,12 +2,12 @@ use mathlib.Core.Path.{sym, ◌∙◌}
 use mathlib.Core.Bool.{true≢false}
 use native.Mathlib.Omega.{arith}
 use Rattle.linked_hash_map.proofs.Limits.{no_room, room, is_room}
-use Rattle.linked_hash_map.proofs.Finding.{unfit}
+use Rattle.linked_hash_map.proofs.Probed.{misfit}
 use Rattle.linked_hash_map.proofs.Checking.{map_walks, map_walks_free, map_finds, checking, checking_no}
 use Rattle.linked_hash_map.proofs.map.LinkedHashMap.check.Goals as goal
 
 pub returns-then-not-map : goal.returns-then-not-map
-returns-then-not-map c = checking_no (unfit (no_room c.map.ensures c.if-not-map.true-raw))
+returns-then-not-map c = checking_no (misfit (no_room c.map.ensures c.if-not-map.true-raw))
 
 pub returns-then-n-len : goal.returns-then-n-len
 returns-then-n-len c = checking_no (λ is. omega (arith, is.count))

@@ -1,17 +1,22 @@
-use mathlib.Core.Path.{sym, ◌∙◌}
-use native.Mathlib.Omega.{arith}
-use Rattle.linked_hash_map.proofs.Limits.{is_room}
-use Rattle.linked_hash_map.proofs.Finding.{unfit, reading, reading_none}
+use mathlib.Core.Path.{◌≡◌}
+use Rattle.linked_hash_map.specs.declared.map.Record.{Record}
+use Rattle.linked_hash_map.specs.Calls.{zeros}
+use Rattle.linked_hash_map.proofs.Probed.{misfit}
+use Rattle.linked_hash_map.proofs.Finding.{reading, reading_none}
 use Rattle.linked_hash_map.proofs.map.LinkedHashMap.record.Goals as goal
+use Rattle.linked_hash_map.proofs.map.LinkedHashMap.record.Goals.{then-slot-self+in_default, else-slot-self}
 
-pub read_record-requires : goal.read_record-requires
-read_record-requires c = let r = is_room _ _ (sym c.map.ensures ∙ c.if-map.true) in omega (arith, r.limit, r.words)
+pub returns-in-Ok : goal.returns-in-Ok
+returns-in-Ok c = rw c.read_record.ensures (reading _ _ _ c.in-Ok.ensures.0 c.if-slot-self.true)
 
-pub returns-then-slot-n : goal.returns-then-slot-n
-returns-then-slot-n c = rw c.read_record.ensures (reading _ _ _ (sym c.map.ensures ∙ c.if-map.true) c.if-slot-n.true)
-
-pub returns-else-slot-n : goal.returns-else-slot-n
-returns-else-slot-n c = reading_none _ _ _ (λ is. c.if-slot-n.false)
-
-pub returns-else-map : goal.returns-else-map
-returns-else-map c = reading_none _ _ _ (λ is. absurd (unfit (sym c.map.ensures ∙ c.if-map.false) is))
+pub returns : goal.returns
+returns c =
+    let a : c.default.result.key ≡ 0 = c.default.ensures.0 in
+    let b : c.default.result.first ≡ 0 = c.default.ensures.1.0 in
+    let d : c.default.result.second ≡ 0 = c.default.ensures.1.1 in
+    let e : ◌≡◌ {A = Record} c.default.result zeros = λ i. record { key = a i; first = b i; second = d i } in
+    rw e
+    (elim c.if-slot-self.branch [
+      | then-slot-self+in_default w ↦ reading_none _ _ _ (λ is. absurd (misfit w.in_default.ensures is))
+      | else-slot-self w ↦ reading_none _ _ _ (λ is. w.if-slot-self.false)
+    ])
