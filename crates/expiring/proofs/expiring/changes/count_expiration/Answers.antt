@@ -1,4 +1,3 @@
-use borrow.Author.Rules.{rules}
 use Rattle.expiring.specs.Numbers.{with_expiration}
 use Rattle.expiring.proofs.expiring.changes.count_expiration.Goals as goal
 

@@ -1,7 +1,7 @@
 use mathlib.Core.Path.{sym, ◌∙◌}
-use Prim.Native.Nat.{◌^◌, ◌<◌, ◌≤◌}
+use Prim.Native.Nat.{◌^◌, ◌<◌}
 use native.Mathlib.Omega.{arith}
-use lib.ListN.{length, get_or}
+use lib.ListN.{get_or}
 use Rattle.expiring.specs.Numbers.{book_in}
 use Rattle.expiring.proofs.Limits.{room_limits}
 use Rattle.expiring.proofs.Following.{follow_insert, follow_insert_default}
