@@ -1,4 +1,6 @@
 // The book's calls.
+#![tactic(auto, using(crate::proofs::Limits::limits_room))]
+
 ghost use Rattle.std.specs.Prelude.{◌≡◌, List, ℕ, length};
 ghost use Rattle.time.specs.declared.tick.Tick.{Tick};
 ghost use Rattle.limits.specs.Limits.{book_limits};

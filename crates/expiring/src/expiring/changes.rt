@@ -1,4 +1,6 @@
 // Calls that set and drop deadlines and values, on a book whose numbers stand in words.
+#![tactic(auto, using(crate::proofs::Changing::admitted_ready))]
+
 ghost use Rattle.std.specs.Prelude.{◌≡◌, ℕ, ◌≤◌, length};
 ghost use Rattle.expiring_model.specs.Model.{set, drop, get, remove, insert, insert_with_ttl, set_ttl};
 ghost use Rattle.fast_lru_model.specs.Model.{Items, value_of, without};

@@ -7,8 +7,5 @@ use Rattle.expiring.proofs.expiring.Expiring.heap_len.Goals as goal
 pub returns-in_err-limits : goal.returns-in_err-limits
 returns-in_err-limits c = rw (handed_on c.from_residual.ensures) (counted_none (sym c.limits.ensures ∙ c.in_err-limits.was))
 
-pub deadlines-requires : goal.deadlines-requires
-deadlines-requires c = limits_room _ _ _ (sym c.limits.ensures ∙ c.in_ok-limits.was)
-
 pub returns : goal.returns
 returns c = counted_entries (limits_room _ _ _ (sym c.limits.ensures ∙ c.in_ok-limits.was)) (rw c.deadlines.ensures at c.heap_len.ensures)

@@ -11,12 +11,6 @@ use Rattle.expiring.proofs.expiring.changes.remove.Goals as goal
 pub returns-in-Err : goal.returns-in-Err
 returns-in-Err c = rw c.saying.ensures (turned_back (sym c.admitted.ensures ∙ c.in-Err.is))
 
-pub remove_within-requires : goal.remove_within-requires
-remove_within-requires c =
-    let ns = c.args.numbers.now in
-    let ready = admitted_ready ns (sym c.admitted.ensures ∙ c.in_default.is) in
-    ready
-
 pub returns : goal.returns
 returns c =
     let ns = c.args.numbers.now in
