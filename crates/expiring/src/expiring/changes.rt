@@ -108,6 +108,7 @@ fn drop_value(numbers: &mut [u64], words: &mut [u64], key: u64) -> Option<u64>
 }
 
 // One expiration more; the count stops at u64::MAX.
+#[tactic(auto, unfolding(crate::specs::Numbers::with_expiration))]
 fn count_expiration(numbers: &mut [u64])
     requires { 12 ≤ length numbers.old }
     ensures { numbers.new ≡ with_expiration numbers.old }
