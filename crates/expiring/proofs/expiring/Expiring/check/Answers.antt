@@ -1,6 +1,6 @@
 use mathlib.Core.Path.{sym, ◌∙◌}
 use mathlib.Core.Bool.{true≢false}
-use Rattle.expiring.proofs.Limits.{limits_room, no_book_lem}
+use Rattle.expiring.proofs.Limits.{no_book_lem}
 use Rattle.expiring.proofs.expiring.Expiring.check.Goals as goal
 
 pub returns-in-Err : goal.returns-in-Err

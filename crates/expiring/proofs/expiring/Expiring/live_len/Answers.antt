@@ -1,7 +1,6 @@
 use mathlib.Core.Path.{sym, ap, ◌∙◌}
 use native.Mathlib.Omega.{arith}
 use Rattle.expiring.proofs.Acting.{follow_limits}
-use Rattle.expiring.proofs.Limits.{limits_room}
 use Rattle.expiring_model.specs.declared.answers.Answer.TheVariants as answers
 use Rattle.expiring.proofs.Following.{follow_live}
 use Rattle.expiring.proofs.expiring.Expiring.live_len.Goals as goal

@@ -1,6 +1,5 @@
 use mathlib.Core.Path.{sym, ◌∙◌}
 use Rattle.expiring.proofs.Acting.{follow_limits}
-use Rattle.expiring.proofs.Limits.{limits_room}
 use Rattle.expiring.proofs.expiring.Expiring.next_deadline.Goals as goal
 
 pub returns-in-Err : goal.returns-in-Err

@@ -1,6 +1,5 @@
 use mathlib.Core.Path.{sym, ◌∙◌}
 use Rattle.lazy_heap.proofs.Calling.{handed_on}
-use Rattle.expiring.proofs.Limits.{limits_room}
 use Rattle.expiring.proofs.Opening.{opening_limits, opening_nanos, opening_done}
 use Rattle.expiring.proofs.expiring.Expiring.open.Goals as goal
 

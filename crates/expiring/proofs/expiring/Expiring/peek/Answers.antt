@@ -1,7 +1,6 @@
 use mathlib.Core.Path.{sym, ◌∙◌}
 use native.Mathlib.Omega.{arith}
 use Rattle.expiring.proofs.Acting.{follow_limits}
-use Rattle.expiring.proofs.Limits.{limits_room}
 use Rattle.expiring.proofs.Following.{follow_peek, follow_peeked}
 use Rattle.expiring.proofs.expiring.Expiring.peek.Goals as goal
 

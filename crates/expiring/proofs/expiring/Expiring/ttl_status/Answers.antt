@@ -1,7 +1,6 @@
 use mathlib.Core.Path.{sym, ◌∙◌}
 use native.Mathlib.Omega.{arith}
 use Rattle.expiring.proofs.Acting.{follow_limits}
-use Rattle.expiring.proofs.Limits.{limits_room}
 use Rattle.expiring.proofs.Following.{follow_status, follow_status_missing}
 use Rattle.expiring.proofs.expiring.Expiring.ttl_status.Goals as goal
 
