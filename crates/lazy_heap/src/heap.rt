@@ -1,4 +1,5 @@
-// The heap's calls. A public call tests the limits, and its private steps may count on them.
+// The heap's calls. A public call tests the limits, and its private steps may count on them. (The words are the caller's, lent
+// to each call: so no struct holds them with the numbers, and a step requires that they have room.)
 #![tactic(auto, using(crate::proofs::Calling::no_heap, crate::proofs::Calling::limits_room))]
 
 ghost use Rattle.std.specs.Prelude.{◌≡◌, ◌-◌, ◌^◌, ◌*◌, ◌<◌, length, ltb};
@@ -9,6 +10,7 @@ ghost use Rattle.lazy_heap.specs.Calls.{Opening, Resetting, Asking, is_empty, sc
 ghost use Rattle.lazy_heap.specs.Steps.{best_of, within, is_over, Storing, TakingKey, Living, Pushing, Popping, Peeking, CountingEntries, TakingTop, Settled, Discarding, Rebuilding, Renumbering, Fitting, Trimming, Holding};
 ghost use Rattle.lazy_heap.specs.Walks.{CountingWithin, Sound, Agreeing};
 
+use crate::walks::slot_number;
 use crate::{layout, walks};
 use binary_heap::Entry;
 use cells::Probe;
@@ -180,7 +182,19 @@ impl LazyMinHeap {
         ensures { Updating words.old self.old key score words.new self.new result }
     {
         limits::heap(self.scores.capacity, words.len())?;
-        self.update_within(words, key, score)
+        let place = self.scores.seek(words, key).unwrap();
+        if is_over(place, self.scores.len, self.scores.capacity) {
+            return Err(Refusal::KeyLimitReached);
+        }
+        let seq = self.seq;
+        let renumbered = self.fit_number(words);
+        let at = self.place_after(words, seq, place, key);
+        let answer = self.hold(words, at, key, score);
+        let rebuilt = self.fit_entries(words, self.factor);
+        Ok(Counted {
+            answer,
+            discarded: renumbered.saturating_add(rebuilt),
+        })
     }
 
     // Its entry stays, stale.
@@ -293,7 +307,7 @@ impl LazyMinHeap {
             && binary_heap::is_heap(&words[layout::entries(self.scores.capacity)], self.entries)
     }
 
-    // Scores and entries go together.
+    // Scores and entries go together. (The tally is as large as any heap needs, since the memory is fixed.)
     fn is_valid(self, words: &[u64]) -> bool
         requires { Room (length words.now) self.scores.capacity }
         ensures { Agreeing words.now self result }
@@ -409,20 +423,20 @@ impl LazyMinHeap {
     }
 
     // The live entries alone, pushed in sequence order: the walk is from the earliest set to the latest. It has a turn for
-    // each key held, and no more than the limit has, which numbers that are no heap's may pass. It answers
-    // how many entries there were more.
+    // each key held, so that it is not begun on numbers with more keys than the limit, which are no heap's. It answers how
+    // many entries there were more.
     fn rebuild_within(&mut self, words: &mut [u64]) -> usize
         requires { Room (length words.old) self.old.scores.capacity }
         ensures { Rebuilding words.old self.old words.new self.new result }
     {
         let discarded = self.surplus();
         let scores = self.scores;
+        if scores.capacity < scores.len {
+            return discarded;
+        }
         self.entries = 0;
-        let mut at = scores.last(words);
-        for _ in 0..scores.len.min(scores.capacity) {
-            let Ok(Some(s)) = at else {
-                return discarded;
-            };
+        let mut s = slot_number(scores.last(words), scores.capacity);
+        for _ in 0..scores.len {
             let r = scores.record(words, s);
             self.push(
                 words,
@@ -432,7 +446,7 @@ impl LazyMinHeap {
                     key: r.key,
                 },
             );
-            at = scores.previous(words, s);
+            s = slot_number(scores.previous(words, s), scores.capacity);
         }
         discarded
     }
@@ -503,30 +517,6 @@ impl LazyMinHeap {
         self.seq = seq.saturating_add(1);
         self.push(words, Entry { score, seq, key });
         answer
-    }
-
-    fn update_within(
-        &mut self,
-        words: &mut [u64],
-        key: u64,
-        score: u64,
-    ) -> Result<Counted<Option<u64>>, Refusal>
-        requires { Room (length words.old) self.old.scores.capacity }
-        ensures { Updating words.old self.old key score words.new self.new result }
-    {
-        let place = self.scores.seek(words, key).unwrap();
-        if is_over(place, self.scores.len, self.scores.capacity) {
-            return Err(Refusal::KeyLimitReached);
-        }
-        let seq = self.seq;
-        let renumbered = self.fit_number(words);
-        let at = self.place_after(words, seq, place, key);
-        let answer = self.hold(words, at, key, score);
-        let rebuilt = self.fit_entries(words, self.factor);
-        Ok(Counted {
-            answer,
-            discarded: renumbered.saturating_add(rebuilt),
-        })
     }
 
     // Takes the first entry out, and its key; nothing where none is given.
