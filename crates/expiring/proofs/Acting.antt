@@ -11,7 +11,7 @@ use Rattle.time.specs.declared.tick.Tick.{Tick}
 use Rattle.time.specs.declared.refusal.Refusal.{Refusal}
 use Rattle.time.specs.declared.refusal.Refusal.TheVariants.{InvalidNanos, KeyLimitReached}
 use Rattle.time.specs.declared.duration.TtlTicks.{TtlTicks}
-use Rattle.std.specs.Prelude.{Option, Result, Ok, Err, ⊤}
+use Rattle.std.specs.Prelude.{Option, Ok, Err}
 use Rattle.lazy_heap_model.specs.Model.{Heap}
 use Rattle.fast_lru_model.specs.Model.{Items}
 use Rattle.expiration_index.specs.Model.{Pairs}

@@ -1,6 +1,6 @@
 -- What stands in the words, as the layers below tell it.
-use mathlib.Core.Path.{◌≡◌, refl, sym, ap, ◌∙◌, subst}
-use mathlib.Core.Bool.{Bool, true, false}
+use mathlib.Core.Path.{◌≡◌, sym, ◌∙◌}
+use mathlib.Core.Bool.{Bool, false}
 use mathlib.Core.List.{List}
 use Prim.Native.Nat.{ℕ}
 use lib.ListN.{length}
@@ -9,46 +9,37 @@ use Rattle.std.specs.Result.{result_unwrap_or}
 use Rattle.limits.specs.Limits.{book_limits}
 use Rattle.time.specs.declared.tick.Tick.{Tick}
 use Rattle.time.specs.declared.refusal.Refusal.{Refusal}
-use Rattle.lazy_heap_model.specs.Model.{heap_len}
 use Rattle.fast_lru.specs.Calls as lru
-use Rattle.fast_lru.specs.Lru as lists
-use Rattle.expiration_index.specs.Model.{Pair, deadline_in, deadline_of, expired_count}
+use Rattle.expiration_index.specs.Model.{Pair, deadline_in, deadline_of}
 use Rattle.expiration_index.specs.Model as pairs
-use Rattle.expiration_index.specs.Index as index
 use Rattle.expiration_index.specs.Calls as calls
 use Rattle.expiring.specs.declared.expiring.Expiring.{Expiring}
 use Rattle.expiring_model.specs.Model.{has_come}
-use Rattle.expiring.specs.Book.{Room, capacity_of, limit_of, IsBook, model_of}
-use Rattle.expiring.specs.Calls.{Checking, Counting, DeadlinesHeld, HeapLength}
+use Rattle.expiring.specs.Book.{Room, capacity_of, limit_of, rest, model_of}
+use Rattle.expiring.specs.Calls.{Counting, DeadlinesHeld, HeapLength}
 use Rattle.expiring_answers.specs.Answers.{come_by}
 use Rattle.expiring.specs.Steps.{deadlines_of, DeadlineOf, Expired, Stored, StoredCount, ExpiredCount}
 use Rattle.expiring.proofs.Limits.{same_value, room_limits, no_book_lem}
-use Rattle.expiring.proofs.Moving.{lent, lent_is, lent_index, lent_limits}
+use Rattle.expiring.proofs.Moving.{rest_limits}
 use Rattle.expiring.proofs.Valuing.{said_asking}
 
 -- ---- deadlines
-module _ (ws : List ℕ) (b : Expiring) (room : Room (length ws) (capacity_of b) (limit_of b)) where
-  pub asking_deadline : {k : ℕ} {r : Result (Option Tick) Refusal} {d : Option Tick} → calls.DeadlineOf (lent ws b) b.index k r → r ≡ Ok d → DeadlineOf ws b k d
-  asking_deadline {k} a e = record { answer = λ o. same_value (sym e ∙ a.answer (lent_index ws b room o)) ∙ ap (λ (l : List ℕ). deadline_of k (index.model_of l b.index)) (lent_is ws b room) }
+module _ {ws : List ℕ} {b : Expiring} where
+  pub asking_deadline : {k : ℕ} {r : Result (Option Tick) Refusal} {d : Option Tick} → calls.DeadlineOf (rest ws b) b.index k r → r ≡ Ok d → DeadlineOf ws b k d
+  asking_deadline a e = record { answer = λ o. same_value (sym e ∙ a.answer o.index) }
 
-  pub asking_expired : {t : Tick} {r : Result ℕ Refusal} {n : ℕ} → calls.ExpiredCount (lent ws b) b.index t r → r ≡ Ok n → ExpiredCount ws b t n
-  asking_expired {t} a e = record { answer = λ o. same_value (sym e ∙ a.answer (lent_index ws b room o)) ∙ ap (λ (l : List ℕ). expired_count t (index.model_of l b.index)) (lent_is ws b room) }
+  pub asking_expired : {t : Tick} {r : Result ℕ Refusal} {n : ℕ} → calls.ExpiredCount (rest ws b) b.index t r → r ≡ Ok n → ExpiredCount ws b t n
+  asking_expired a e = record { answer = λ o. same_value (sym e ∙ a.answer o.index) }
 
-  counted : {n : ℕ} {r : Result ℕ Refusal} → calls.Asking (lent ws b) b.index n r → {m : ℕ} → (IsBook ws b → n ≡ m) → Counting ws b m r
-  counted a e = record { outcome = a.outcome ∙ lent_limits ws b room ∙ sym (room_limits room); answer = λ o. a.answer (lent_index ws b room o) ∙ ap Ok (e o) }
+  counted : Room (length ws) (capacity_of b) (limit_of b) → {n : ℕ} {r : Result ℕ Refusal} → calls.Asking (rest ws b) b.index n r → Counting ws b n r
+  counted room a = record { outcome = a.outcome ∙ rest_limits ws b room ∙ sym (room_limits room); answer = λ o. a.answer o.index }
 
-  pub counted_held : {r : Result ℕ Refusal} → calls.Length (lent ws b) b.index r → DeadlinesHeld ws b r
+  pub counted_held : Room (length ws) (capacity_of b) (limit_of b) → {r : Result ℕ Refusal} → calls.Length (rest ws b) b.index r → DeadlinesHeld ws b r
   unfolding model_of
-  counted_held a = counted a (λ o. ap (λ (l : List ℕ). length (index.model_of l b.index)) (lent_is ws b room))
+  counted_held room a = counted room a
 
-  pub counted_entries : {r : Result ℕ Refusal} → calls.HeapLength (lent ws b) b.index r → HeapLength ws b r
-  counted_entries a = counted a (λ o. ap (λ (l : List ℕ). heap_len (index.heap_of l b.index)) (lent_is ws b room))
-
-  pub asking_check : lists.IsList ws b.inner → {r : Bool} → calls.Checking (lent ws b) b.index r → Checking ws b r
-  asking_check l k = record {
-    sound = λ q. record { list = l; index = subst (λ (w : List ℕ). index.IsIndex w b.index) (lent_is ws b room) (k.sound q) };
-    complete = λ o. k.complete (lent_index ws b room o);
-  }
+  pub counted_entries : Room (length ws) (capacity_of b) (limit_of b) → {r : Result ℕ Refusal} → calls.HeapLength (rest ws b) b.index r → HeapLength ws b r
+  counted_entries room a = counted room a
 
 come : (t : Tick) (x : Option Pair) (d : Option Tick) → d ≡ deadline_in x → come_by d t ≡ has_come t x
 come t None d e = rw e

@@ -7,9 +7,8 @@ use native.Mathlib.Omega.{arith}
 use borrow.Author.Tests.{lt-ltb, le-ltb}
 use lib.ListN.{length, get_or}
 use Rattle.rings.proofs.Counts.{by_lt}
-use Rattle.std.specs.Prelude.{Option, Some, None, Result, Ok, Err, ⊤}
+use Rattle.std.specs.Prelude.{Option, None, Result, Ok, Err}
 use Rattle.std.specs.Result.{result_unwrap_or}
-use Rattle.limits.specs.Limits.{book_limits}
 use Rattle.time.specs.declared.tick.Tick.{Tick}
 use Rattle.time.specs.declared.refusal.Refusal.{Refusal}
 use Rattle.time.specs.declared.refusal.Refusal.TheVariants.{TooFewWords}
@@ -30,8 +29,8 @@ use Rattle.expiring.specs.Book.{capacity_of, limit_of, IsBook}
 use Rattle.expiring.specs.Calls.{Following}
 use Rattle.expiring.specs.Numbers.{lru_in, index_in, book_in, with_lru, with_deadlines, with_held, with_expiration, with_book}
 use Rattle.expiring_answers.specs.Answers.{of_found, come_by}
-use Rattle.expiring.specs.Steps.{stored_of, DeadlineOf, Moved, same, Dating, beyond, expired_in, value_of, unless, Acting, concluding, Inserting}
-use Rattle.expiring.specs.Changes.{Ready, Stay, reply_in, saying, too_few_numbers, admitted, Setting, Dropping, Valuing, Putting, Concluding, Changing}
+use Rattle.expiring.specs.Steps.{stored_of, DeadlineOf, Moved, same, Dating, beyond, expired_in, value_of, unless, Acting, Inserting}
+use Rattle.expiring.specs.Changes.{Ready, Stay, reply_in, saying, admitted, Setting, Dropping, Valuing, Putting, Concluding, Changing}
 use Rattle.expiring.proofs.Acting.{follow_limits}
 use Rattle.expiring.proofs.Moving.{lent, back, index_kept, moved_drop, moved_later}
 use Rattle.expiring.proofs.Limits.{err_ok, same_err, limits_room}

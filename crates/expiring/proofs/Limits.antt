@@ -9,7 +9,7 @@ use Rattle.limits.specs.Limits.{book_limits}
 use Rattle.rings.proofs.Counts.{by_lt}
 use Rattle.time.specs.declared.refusal.Refusal.{Refusal}
 use Rattle.time.specs.declared.refusal.Refusal.TheVariants.{LimitOutOfRange, TooFewWords}
-use Rattle.std.specs.Prelude.{Result, Ok, Err, IsOk, ⊤}
+use Rattle.std.specs.Prelude.{Result, Ok, Err, IsOk}
 use Rattle.lazy_heap.specs.Answers.{outcome_of}
 use Rattle.fast_lru.proofs.Laws as list
 use Rattle.expiration_index.proofs.Laws as index

@@ -7,7 +7,7 @@ use lib.ListN.{length, length-drop}
 use borrow.Author.Tests.{ne_eqb, le-ltb}
 use lib.ListN as words
 use borrow.Rule.Slice.PartMut.{mid_of, put_mid}
-use Rattle.std.specs.Prelude.{Option, Result, Ok, IsOk, ⊤}
+use Rattle.std.specs.Prelude.{Option, Result, Ok, IsOk}
 use Rattle.limits.specs.Limits.{heap_limits}
 use Rattle.lazy_heap.specs.Answers.{outcome_of}
 use Rattle.time.specs.declared.tick.Tick.{Tick}
@@ -82,15 +82,20 @@ module _ (ws : List ℕ) (b : Expiring) (room : Room (length ws) (capacity_of b)
   pub lent_index : IsBook ws b → index.IsIndex (lent ws b) b.index
   lent_index o = rw lent_is o.index
 
-  -- there is room for the index behind a book's list
-  pub lent_limits : calls.limits_in (lent ws b) b.index ≡ Ok tt
+  -- there is room for the index behind a book's list, so that it refuses nothing
+  pub rest_limits : calls.limits_in (rest ws b) b.index ≡ Ok tt
   unfolding heap_limits
-  lent_limits =
+  rest_limits =
       let d = limit_of b in
-      let size : 64 + 32 * d ≤ length (lent ws b) = omega (arith, ap length lent_is, length-drop (start (capacity_of b)) ws, room.words) in
-      rw (ne_eqb d 0 (λ q. omega (arith, room.some)), le-ltb 4096 d room.limit, le-ltb (length (lent ws b)) (64 + 32 * d) size)
+      let size : 64 + 32 * d ≤ length (rest ws b) = omega (arith, length-drop (start (capacity_of b)) ws, room.words) in
+      rw (ne_eqb d 0 (λ q. omega (arith, room.some)), le-ltb 4096 d room.limit, le-ltb (length (rest ws b)) (64 + 32 * d) size)
 
-  -- so that it refuses nothing
+  pub rest_answers : {A : Type 0} (r : Result A Refusal) → outcome_of r ≡ calls.limits_in (rest ws b) b.index → IsOk r
+  rest_answers r e = never_refused r (e ∙ rest_limits)
+
+  pub lent_limits : calls.limits_in (lent ws b) b.index ≡ Ok tt
+  lent_limits = ap (λ (l : List ℕ). calls.limits_in l b.index) lent_is ∙ rest_limits
+
   pub lent_answers : {A : Type 0} (r : Result A Refusal) → outcome_of r ≡ calls.limits_in (lent ws b) b.index → IsOk r
   lent_answers r e = never_refused r (e ∙ lent_limits)
 

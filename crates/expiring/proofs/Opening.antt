@@ -7,9 +7,9 @@ use lib.ListN.{length}
 use lib.ListN as words
 use borrow.Author.Tests.{le-ltb}
 use borrow.Rule.Slice.PartMut.{mid_of, put_mid}
-use Rattle.std.specs.Prelude.{Option, Some, None, Result, Ok, Err, IsOk, ⊤}
+use Rattle.std.specs.Prelude.{Option, Some, None, Result, Ok, Err, IsOk}
 use Rattle.std.specs.Option.{option_transpose}
-use Rattle.limits.specs.Limits.{list_limits, heap_limits, book_limits}
+use Rattle.limits.specs.Limits.{list_limits, book_limits}
 use Rattle.time.specs.declared.duration.Duration.{Duration}
 use Rattle.time.specs.declared.duration.TtlTicks.{TtlTicks}
 use Rattle.time.specs.Duration.{ticks_of}

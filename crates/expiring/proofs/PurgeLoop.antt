@@ -3,7 +3,7 @@ use mathlib.Core.Path.{◌≡◌, refl, sym, ap, subst, ◌∙◌}
 use mathlib.Core.Bool.{Bool, true, false, true≢false}
 use mathlib.Core.List.{List}
 use Rattle.std.specs.Prelude.{Option, Some, None, is_some, Ok}
-use Prim.Native.Nat.{ℕ, ◌+◌, ◌-◌, ◌<◌, ◌≤◌}
+use Prim.Native.Nat.{ℕ, ◌+◌, ◌≤◌}
 use native.Mathlib.Omega.{arith}
 use lib.ListN.{length}
 use Rattle.limits.specs.Limits.{book_limits}
@@ -20,10 +20,10 @@ use Rattle.expiring.specs.declared.expiring.Expiring.{Expiring}
 use Rattle.lazy_heap_model.specs.declared.counted.Counted.{Counted}
 use Rattle.expiring_model.specs.Model.{purge_expired, drop_expired, change_of, pairs_after, without_expired, stored_after, expired_by, answered, bad_nanos}
 use Rattle.expiring_model.specs.Discards.{discards, heap_after}
-use Rattle.expiring.specs.Book.{Room, capacity_of, limit_of, IsBook, heap_of, model_of, Kept}
+use Rattle.expiring.specs.Book.{capacity_of, limit_of, IsBook, heap_of, model_of, Kept}
 use Rattle.expiring.specs.Calls.{Following}
 use Rattle.expiring.specs.Steps.{saturating_sum, purging, stored_of, deadlines_of, Moved, less_value, PoppingExpired}
-use Rattle.expiring.proofs.Frames.{kept_same, kept_then}
+use Rattle.expiring.proofs.Frames.{kept_then}
 use Rattle.expiring.proofs.Following.{count_accepted}
 use Rattle.expiring.proofs.Acting.{acting_expired, follow}
 use Rattle.expiring.proofs.Purging.{purged_accounts, purged_none, discards_none, purged_some, discards_some, expired_few, count_none, pairs_none, stored_none, taken_is, count_some, pairs_some, stored_some}
@@ -43,21 +43,6 @@ pub record Progress (ws : List ℕ) (b : Expiring) (t : Tick) (ws' : List ℕ) (
   pub discarded : IsBook ws b → n + stale + discards (drop_expired t) (heap_of ws' b') ≡ discards (drop_expired t) (heap_of ws b)
   pub kept : Kept (capacity_of b) (limit_of b) ws ws'
 
-pub progress_none : (ws : List ℕ) (b : Expiring) (t : Tick) → Progress ws b t ws b 0 0
-progress_none ws b t = record {
-  capacity = refl;
-  limit = refl;
-  lifetime = refl;
-  expirations = refl;
-  book = λ is. is;
-  stored = λ is. refl;
-  deadlines = λ is. refl;
-  heap = λ is. refl;
-  count = λ is. omega arith;
-  discarded = λ is. omega arith;
-  kept = kept_same (capacity_of b) (limit_of b) ws;
-}
-
 -- a book's heap has too few entries for a sum of them to saturate
 few_discarded : {ws : List ℕ} {b : Expiring} → IsBook ws b → (t : Tick) → discards (drop_expired t) (heap_of ws b) ≤ 32768
 few_discarded {ws} {b} is t = omega (arith, purged_accounts t (heap_of ws b), (fair_heap is.index.heap).few, is.index.heap.parts.room.limit)
@@ -71,10 +56,6 @@ none_in None e = refl
 none_in (Some p) e = absurd (true≢false e)
 
 module _ {ws ws₁ : List ℕ} {b b₁ : Expiring} {t : Tick} {n s : ℕ} (so_far : Progress ws b t ws₁ b₁ n s) where
-  -- the words are still as many as a book's
-  pub progress_room : Room (length ws) (capacity_of b) (limit_of b) → Room (length ws₁) (capacity_of b₁) (limit_of b₁)
-  progress_room g = rw (so_far.capacity, so_far.limit, so_far.kept.size) g
-
   -- one round
   module _ {ws₂ : List ℕ} {b₂ : Expiring} {r : Counted Bool} (o : PoppingExpired ws₁ b₁ t ws₂ b₂ r) where
     distinct : IsBook ws b → Distinct (deadlines_of ws₁ b₁)

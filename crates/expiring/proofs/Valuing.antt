@@ -31,7 +31,7 @@ use Rattle.expiring_model.specs.Model.{keep, set, value_in, pairs_after}
 use Rattle.expiring_model.specs.Discards.{discards, heap_after}
 use Rattle.expiring.specs.Book.{start, Room, capacity_of, limit_of, IsBook}
 use Rattle.expiring_answers.specs.Answers.{of_found}
-use Rattle.expiring.specs.Steps.{with_list, with_index, stored_of, deadlines_of, DeadlineOf, Moved, Dating}
+use Rattle.expiring.specs.Steps.{with_list, with_index, stored_of, DeadlineOf, Moved, Dating}
 use Rattle.expiring.proofs.Limits.{err_ok, same_err, same_value}
 use Rattle.expiring.proofs.Moving.{moved_list, lent, back, lent_is, lent_index, lent_limits, moved_index}
 use Rattle.expiring.proofs.Acting.{Accepted, no_refusal}

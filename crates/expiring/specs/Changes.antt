@@ -1,6 +1,6 @@
 -- What the calls on numbers in words promise: the promise of the book's own call, of the book that the numbers tell before it and
 -- the one that they tell after it.
-use Rattle.std.specs.Prelude.{◌≡◌, cond, ◌≢◌, List, ℕ, ◌<◌, ◌≤◌, ltb, length, get_or, Option, Result, Ok, Err, ⊤}
+use Rattle.std.specs.Prelude.{◌≡◌, cond, ◌≢◌, List, ℕ, ◌<◌, ◌≤◌, ltb, length, get_or, Option, Result, Err, ⊤}
 use Rattle.limits.specs.Limits.{book_limits}
 use Rattle.time.specs.declared.tick.Tick.{Tick}
 use Rattle.time.specs.declared.refusal.Refusal.{Refusal}

@@ -1,10 +1,12 @@
 // The book's calls.
+#![tactic(auto, using(crate::proofs::Limits::limits_room))]
+
 ghost use Rattle.std.specs.Prelude.{◌≡◌, List, ℕ, length};
 ghost use Rattle.time.specs.declared.tick.Tick.{Tick};
 ghost use Rattle.limits.specs.Limits.{book_limits};
 ghost use Rattle.expiring_model.specs.declared.answers.Answer.TheVariants as answers;
 ghost use Rattle.expiring_model.specs.Model.{Call, contains, peek, get, insert, remove, clear, insert_with_ttl, ttl_status, set_ttl, purge_expired, live_len, expirations, next_deadline, touch, recency_rank, pop_lru, peek_lru, drop_all};
-ghost use Rattle.expiring.specs.Book.{Room, capacity_of, limit_of};
+ghost use Rattle.expiring.specs.Book.{Room, capacity_of, limit_of, rest};
 ghost use Rattle.expiring.specs.Calls.{Following, Opening, Checking, DeadlinesHeld, HeapLength};
 ghost use Rattle.expiring.specs.Changes.{Changing};
 ghost use Rattle.expiring.specs.Steps.{defaulted_by, with_expired, replying, purging, DeadlineOf, Expired, Stored, StoredCount, ExpiredCount, Moved, same, PoppingExpired, Opened};
@@ -224,7 +226,7 @@ impl Expiring {
         ensures { DeadlinesHeld words.now self result }
     {
         self.limits(words.len())?;
-        self.deadlines_held_within(words)
+        self.index.len(self.deadlines(words))
     }
 
     // How many entries are in the heap, live and stale.
@@ -232,7 +234,7 @@ impl Expiring {
         ensures { HeapLength words.now self result }
     {
         self.limits(words.len())?;
-        self.heap_len_within(words)
+        self.index.heap_len(self.deadlines(words))
     }
 
     // The next due, keys pushed out included. Stale entries before it are discarded.
@@ -295,16 +297,8 @@ impl Expiring {
     {
         match self.limits(words.len()) {
             Err(_) => false,
-            Ok(()) => self.check_within(words),
+            Ok(()) => self.inner.check(words) && self.index.check(self.deadlines(words)),
         }
-    }
-
-    fn check_within(self, words: &[u64]) -> bool
-        requires { Room (length words.now) (capacity_of self) (limit_of self) }
-        ensures { Checking words.now self result }
-    {
-        let start = 64 + 8 * self.inner.map.capacity;
-        self.inner.check(words) && self.index.check(&words[start..])
     }
 
     // ---- replies
@@ -359,12 +353,20 @@ impl Expiring {
 
     // ---- what stands in the words. What the list refuses reads as if there were nothing; the index refuses nothing that has room.
 
+    // The words of the deadlines.
+    fn deadlines(self, words: &[u64]) -> &[u64]
+        requires { Room (length words.now) (capacity_of self) (limit_of self) }
+        ensures { result.now ≡ rest words.now self }
+    {
+        let start = 64 + 8 * self.inner.map.capacity;
+        &words[start..]
+    }
+
     fn deadline_of(self, words: &[u64], key: u64) -> Option<Tick>
         requires { Room (length words.now) (capacity_of self) (limit_of self) }
         ensures { DeadlineOf words.now self key result }
     {
-        let start = 64 + 8 * self.inner.map.capacity;
-        self.index.deadline_of(&words[start..], key).unwrap()
+        self.index.deadline_of(self.deadlines(words), key).unwrap()
     }
 
     fn is_expired(self, words: &[u64], tick: Tick, key: u64) -> bool
@@ -390,24 +392,9 @@ impl Expiring {
         requires { Room (length words.now) (capacity_of self) (limit_of self) }
         ensures { ExpiredCount words.now self tick result }
     {
-        let start = 64 + 8 * self.inner.map.capacity;
-        self.index.expired_count(&words[start..], tick).unwrap()
-    }
-
-    fn deadlines_held_within(self, words: &[u64]) -> Result<usize, Refusal>
-        requires { Room (length words.now) (capacity_of self) (limit_of self) }
-        ensures { DeadlinesHeld words.now self result }
-    {
-        let start = 64 + 8 * self.inner.map.capacity;
-        self.index.len(&words[start..])
-    }
-
-    fn heap_len_within(self, words: &[u64]) -> Result<usize, Refusal>
-        requires { Room (length words.now) (capacity_of self) (limit_of self) }
-        ensures { HeapLength words.now self result }
-    {
-        let start = 64 + 8 * self.inner.map.capacity;
-        self.index.heap_len(&words[start..])
+        self.index
+            .expired_count(self.deadlines(words), tick)
+            .unwrap()
     }
 
     // ---- steps on the deadlines

@@ -57,6 +57,7 @@ pub fn book_in(numbers: &[u64]) -> Expiring
 }
 
 // The numbers of the list that a call may change.
+#[tactic(auto, unfolding(crate::specs::Numbers::with_lru))]
 pub fn store_list(numbers: &mut [u64], inner: FastLru)
     requires { 12 ≤ length numbers.old }
     ensures { numbers.new ≡ with_lru numbers.old inner }
@@ -67,6 +68,7 @@ pub fn store_list(numbers: &mut [u64], inner: FastLru)
 }
 
 // And those of the index.
+#[tactic(auto, unfolding(crate::specs::Numbers::with_deadlines))]
 pub fn store_index(numbers: &mut [u64], index: ExpirationIndex)
     requires { 12 ≤ length numbers.old }
     ensures { numbers.new ≡ with_deadlines numbers.old index }
@@ -81,6 +83,7 @@ pub fn store_index(numbers: &mut [u64], index: ExpirationIndex)
 }
 
 // How many deadlines are held: all that a removal changes of the index's numbers.
+#[tactic(auto, unfolding(crate::specs::Numbers::with_held))]
 pub fn store_held(numbers: &mut [u64], index: ExpirationIndex)
     requires { 12 ≤ length numbers.old }
     ensures { numbers.new ≡ with_held numbers.old index }
@@ -89,6 +92,7 @@ pub fn store_held(numbers: &mut [u64], index: ExpirationIndex)
 }
 
 // All that a call may change: neither the limits nor the default lifetime. A number that is stored makes the next call wait for it.
+#[tactic(auto, unfolding(crate::specs::Numbers::with_changed))]
 pub fn store_changed(numbers: &mut [u64], book: Expiring)
     requires { 12 ≤ length numbers.old }
     ensures { numbers.new ≡ with_changed numbers.old book }

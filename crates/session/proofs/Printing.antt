@@ -7,16 +7,17 @@ use lib.ListN.{length}
 use Rattle.expiring_model.specs.declared.answers.Answer.{Answer}
 use Rattle.expiring_model.specs.declared.answers.Answer.TheVariants as answer
 use Rattle.lazy_heap_model.specs.Model.{heap_len}
-use Rattle.expiration_index.specs.declared.answers.Count.{Count}
+use Rattle.std.specs.Prelude.{Result}
+use Rattle.std.specs.Result.{result_unwrap_or}
+use Rattle.time.specs.declared.refusal.Refusal.{Refusal}
 use Rattle.expiring.specs.declared.answers.Reply.{Reply}
 use Rattle.expiring.specs.Book.{heap_of, model_of}
 use Rattle.expiring.specs.Calls.{HeapLength, DeadlinesHeld}
 use Rattle.text.specs.Text.{fill}
-use Rattle.text.specs.Writing.{Puts}
 use Rattle.text.proofs.Laws.{fill_size}
 use Rattle.session.specs.declared.answer.Counts.{Counts}
 use Rattle.session.specs.Answers.{line_format, line_numbers, line_of, Prints, head_of, tail_of}
-use Rattle.session.specs.Session.{room, Written, Tells, number_in}
+use Rattle.session.specs.Session.{room, Written, Tells}
 
 -- the longest format has 43 bytes, and no answer more than five numbers
 fits : (a : Answer) (c : Counts) → length (line_format a) + 19 * length (line_numbers a c) ≤ room
@@ -58,19 +59,19 @@ line_parts answer.Done c = refl
 line_parts (answer.Refused why) c = simp append_assoc
 
 -- an answer's head, where it is known which answer it is
-pub head_of_lem : {out out' : List ℕ} {n : ℕ} {a b : Answer} → a ≡ b → Puts out 0 (head_of b) out' n → Puts out 0 (head_of a) out' n
-head_of_lem e p = rw e p
+pub head_is : {a b : Answer} {l : List ℕ} → a ≡ b → l ≡ head_of b → l ≡ head_of a
+head_is e p = rw e p
 
 module _ {out out' : List ℕ} (a : Answer) (c : Counts) {n : ℕ} (enough : room ≤ length out) (p : Prints out a c out' n) where
   pub printed : Written out (line_of a c) out' n
   printed = let h : 0 + length (line_of a c) ≤ length out = omega (arith, enough, line_size a c) in record { size = omega (arith, p.ends h); bytes = p.written h }
 
 -- a book's answer, with its counts
-module _ {ws out out' : List ℕ} (r : Reply) {n h l : ℕ} {entries held : Count} (enough : room ≤ length out) (p : Prints out r.answer (record { discarded = r.discarded; heap = h; held = l }) out' n) where
-  pub told : HeapLength ws r.book entries → DeadlinesHeld ws r.book held → h ≡ number_in entries → l ≡ number_in held → Tells ws r out out' n
+module _ {ws out out' : List ℕ} (r : Reply) {n h l : ℕ} {entries held : Result ℕ Refusal} (enough : room ≤ length out) (p : Prints out r.answer (record { discarded = r.discarded; heap = h; held = l }) out' n) where
+  pub told : HeapLength ws r.book entries → DeadlinesHeld ws r.book held → h ≡ result_unwrap_or entries 0 → l ≡ result_unwrap_or held 0 → Tells ws r out out' n
   unfolding model_of
   told x y e f = record {
     lent = p.size;
     within = p.within;
-    written = λ o. let i : h ≡ heap_len (heap_of ws r.book) = e ∙ ap number_in (x.answer o) in let j : l ≡ length (model_of ws r.book 0 0).deadlines = f ∙ ap number_in (y.answer o) in subst (λ (z : Counts). Written out (line_of r.answer z) out' n) (ap (λ (z : ℕ). record { discarded = r.discarded; heap = z; held = l }) i ∙ ap (λ (z : ℕ). record { discarded = r.discarded; heap = heap_len (heap_of ws r.book); held = z }) j) (printed r.answer _ enough p);
+    written = λ o. let i : h ≡ heap_len (heap_of ws r.book) = e ∙ ap (λ (z : Result ℕ Refusal). result_unwrap_or z 0) (x.answer o) in let j : l ≡ length (model_of ws r.book 0 0).deadlines = f ∙ ap (λ (z : Result ℕ Refusal). result_unwrap_or z 0) (y.answer o) in subst (λ (z : Counts). Written out (line_of r.answer z) out' n) (ap (λ (z : ℕ). record { discarded = r.discarded; heap = z; held = l }) i ∙ ap (λ (z : ℕ). record { discarded = r.discarded; heap = heap_len (heap_of ws r.book); held = z }) j) (printed r.answer _ enough p);
   }

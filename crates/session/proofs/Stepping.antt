@@ -7,7 +7,6 @@ use native.Mathlib.Omega.{arith}
 use borrow.Author.Tests.{lt-ltb, le-ltb}
 use lib.ListN.{length}
 use Rattle.time.specs.declared.tick.Tick.{Tick}
-use Rattle.time.specs.declared.refusal.Outcome.TheVariants.{Done, Refused}
 use Rattle.time.specs.declared.refusal.Refusal.{Refusal}
 use Rattle.time.specs.declared.refusal.Refusal.TheVariants.{LimitOutOfRange, MalformedLine}
 use Rattle.lazy_heap_model.specs.Model.{heap_len}
@@ -17,8 +16,8 @@ use Rattle.expiring_model.specs.declared.answers.Answer.{Answer}
 use Rattle.expiring_model.specs.declared.answers.Answer.TheVariants as answer
 use Rattle.expiring.specs.declared.answers.Reply.{Reply}
 use Rattle.expiring.specs.declared.expiring.Expiring.{Expiring}
-use Rattle.expiring.specs.declared.expiring.Opened.{Opened}
-use Rattle.expiring_model.specs.declared.lifetimes.DefaultDuration.{DefaultDuration}
+use Rattle.time.specs.declared.duration.Duration.{Duration}
+use Rattle.lazy_heap.specs.Answers.{outcome_of}
 use Rattle.expiring_model.specs.Model.{Book, fresh}
 use Rattle.expiring_model.specs.Model as book
 use Rattle.expiring.specs.Book.{IsBook, heap_of, model_of}
@@ -65,7 +64,7 @@ opens_none ws {why} e = record {
   refused = λ why' h. let same : why ≡ why' = cc in (rw same at e, refl);
 }
 
-module _ (size c d s : ℕ) (l : DefaultDuration) where
+module _ (size c d s : ℕ) (l : Option Duration) where
   pub wide_capacity : 128 < c → opening size c d s l ≡ refused_first LimitOutOfRange
   unfolding opening
   wide_capacity h = rw (lt-ltb 128 c h) refl
@@ -75,30 +74,25 @@ module _ (size c d s : ℕ) (l : DefaultDuration) where
   wide_limit k h = rw (le-ltb 128 c k, lt-ltb 128 d h) refl
 
   module _ (k : c ≤ 128) (h : d ≤ 128) where
-    pub opening_refused : {why : Refusal} → opening_of c d size l ≡ Refused why → opening size c d s l ≡ refused_first why
+    opening_refused : {why : Refusal} → opening_of c d size l ≡ Err why → opening size c d s l ≡ refused_first why
     unfolding opening
     opening_refused e = rw (le-ltb 128 c k, le-ltb 128 d h, e) refl
 
-    opening_done : opening_of c d size l ≡ Done → opening size c d s l ≡ (running (fresh c d (default_of l)) (heap.opened d factor s), [])
+    opening_done : opening_of c d size l ≡ Ok tt → opening size c d s l ≡ (running (fresh c d (default_of l)) (heap.opened d factor s), [])
     unfolding opening
     opening_done e = rw (le-ltb 128 c k, le-ltb 128 d h, e) refl
 
-module _ (ws ws' : List ℕ) (c d s : ℕ) (l : DefaultDuration) (r : Opened) (k : c ≤ 128) (h : d ≤ 128) (o : Opening ws c d s l ws' r) where
-  stands_fresh : r.outcome ≡ Done → Stands ws' (session.Open r.book) (running (fresh c d (default_of l)) (heap.opened d factor s))
+module _ (ws ws' : List ℕ) (c d s : ℕ) (l : Option Duration) (r : Result Expiring Refusal) (k : c ≤ 128) (h : d ≤ 128) (o : Opening ws c d s l ws' r) where
+  stands_fresh : (b : Expiring) → r ≡ Ok b → Stands ws' (session.Open b) (running (fresh c d (default_of l)) (heap.opened d factor s))
   unfolding fresh
-  stands_fresh e = subst (λ (z : heap.Heap). Stands ws' (session.Open r.book) (running (fresh c d (default_of l)) z)) (o.heap e) (opened (o.book e) (o.model e))
+  stands_fresh b e = subst (λ (z : heap.Heap). Stands ws' (session.Open b) (running (fresh c d (default_of l)) z)) (o.heap b e) (opened (o.book b e) (o.model b e))
 
-  pub opens_book : r.outcome ≡ Done → Opens ws (opening (length ws) c d s l) ws' (Ok r.book)
-  opens_book e = rw (opening_done (length ws) c d s l k h (sym o.outcome ∙ e)) (record {
+  pub opens_book : Opens ws (opening (length ws) c d s l) ws' r
+  opens_book = record {
     words = o.kept.size;
-    opened = λ b q. let same : r.book ≡ b = cc in (rw same at (stands_fresh e), refl);
-    refused = λ why q. absurd (let z : ◌≡◌ {A = ℕ} 0 1 = cc in omega arith);
-  })
-
-  pub opens_refused : {why : Refusal} → r.outcome ≡ Refused why → Opens ws (opening (length ws) c d s l) ws' (Err why)
-  opens_refused {why} e =
-      let same = (o.refused why e).1 in
-      rw same (opens_none ws (opening_refused (length ws) c d s l k h (sym o.outcome ∙ e)))
+    opened = λ b e. let done = opening_done (length ws) c d s l k h (sym o.outcome ∙ ap outcome_of e) in (rw done (stands_fresh b e), rw done refl);
+    refused = λ why e. (opening_refused (length ws) c d s l k h (sym o.outcome ∙ ap outcome_of e), o.refused why e);
+  }
 
 -- ---- a later line
 line_same : {a a' : Answer} {d d' : ℕ} {h h' : heap.Heap} {l l' : ℕ} → a ≡ a' → d ≡ d' → h ≡ h' → l ≡ l' → line_of a (record { discarded = d; heap = heap_len h; held = l }) ≡ line_of a' (record { discarded = d'; heap = heap_len h'; held = l' })

@@ -4,9 +4,11 @@ use Prim.Native.String.{String}
 use Rattle.time.specs.Refusal.{number_of}
 use Rattle.expiring_model.specs.declared.answers.Answer.{Answer}
 use Rattle.expiring_model.specs.declared.answers.Answer.TheVariants as answer
-use Rattle.text.specs.Text.{bytes, fill}
+use Rattle.text.specs.Text.{bytes, decimal, fill}
 use Rattle.text.specs.Writing.{Puts}
 use Rattle.session.specs.declared.answer.Counts.{Counts}
+use Rattle.session.specs.declared.answer.Shape.{Shape}
+use Rattle.session.specs.declared.answer.Shape.TheVariants as shape
 
 -- A, each 0 standing for a number. No form asks for an item or a rank.
 abbrev pub format_of : Answer → String
@@ -58,6 +60,12 @@ Prints out a c out' r = Puts out 0 (line_of a c) out' r
 -- its parts: up to the counts, and from them on
 unfoldable pub head_of : Answer → List ℕ
 head_of a = fill (bytes "(" ++ bytes (format_of a)) (numbers_of a)
+
+-- the same by its name and its numbers
+abbrev pub shaped : Shape → List ℕ
+shaped (shape.Name n) = bytes "(" ++ n.now
+shaped (shape.One n a) = bytes "((" ++ (n.now ++ (bytes " " ++ decimal a ++ bytes ")"))
+shaped (shape.Two n a b) = bytes "((" ++ (n.now ++ (bytes " " ++ decimal a ++ (bytes " " ++ decimal b ++ bytes ")")))
 
 unfoldable pub tail_of : Counts → List ℕ
 tail_of c = fill (bytes " (thrown 0) (heap 0) (held 0))\n") (c.discarded ∷ c.heap ∷ c.held ∷ [])

@@ -1,22 +1,17 @@
 -- What a session prints, as the plain book has it.
-use Rattle.std.specs.Prelude.{◌≡◌, Option, None, Some, Result, Ok, Err, cond, ◌||◌, List, [], ◌∷◌, ◌++◌, ℕ, ◌<◌, ◌≤◌, ltb, length}
+use Rattle.std.specs.Prelude.{◌≡◌, Option, None, Some, Result, Ok, Err, ⊤, cond, ◌||◌, List, [], ◌∷◌, ◌++◌, ℕ, ◌<◌, ◌≤◌, ltb, length}
 use Rattle.std.proofs.lemmas.List.Edits.{sets}
 use Rattle.time.specs.declared.tick.Tick.{Tick}
-use Rattle.time.specs.declared.refusal.Outcome.{Outcome}
-use Rattle.time.specs.declared.refusal.Outcome.TheVariants as outcome
 use Rattle.time.specs.declared.refusal.Refusal.{Refusal}
 use Rattle.time.specs.declared.refusal.Refusal.TheVariants.{LimitOutOfRange, MalformedLine}
 use Rattle.time.specs.Duration.{duration_of}
 use Rattle.lazy_heap_model.specs.Model.{Heap, heap_len}
 use Rattle.lazy_heap_model.specs.Model as heap
-use Rattle.expiration_index.specs.declared.answers.Count.{Count}
-use Rattle.expiration_index.specs.declared.answers.Count.TheVariants as count
 use Rattle.expiration_index.specs.Index.{factor}
 use Rattle.expiring_model.specs.declared.answers.Answer.TheVariants as answer
 use Rattle.expiring.specs.declared.answers.Reply.{Reply}
 use Rattle.expiring.specs.declared.expiring.Expiring.{Expiring}
-use Rattle.expiring_model.specs.declared.lifetimes.DefaultDuration.{DefaultDuration}
-use Rattle.expiring_model.specs.declared.lifetimes.DefaultDuration.TheVariants as asked
+use Rattle.time.specs.declared.duration.Duration.{Duration}
 use Rattle.expiring_model.specs.Model.{Book, fresh, answer_of, book_after}
 use Rattle.expiring_model.specs.Model as book
 use Rattle.expiring_model.specs.Discards.{discarded_by, heap_by}
@@ -69,15 +64,15 @@ abbrev pub refused_first : Refusal → Step
 refused_first why = (ended, line_of (answer.Refused why) (record { discarded = 0; heap = 0; held = 0 }))
 
 -- "An accepted first line prints nothing"
-abbrev pub by_outcome : Outcome → State → Step
-by_outcome outcome.Done s = (s, [])
-by_outcome (outcome.Refused why) s = refused_first why
+abbrev pub by_outcome : Result ⊤ Refusal → State → Step
+by_outcome (Ok u) s = (s, [])
+by_outcome (Err why) s = refused_first why
 
 -- "C and D at most 128 else refusal 1"; how many words there are decides refusal 2
-abbrev pub opened_of : ℕ → ℕ → ℕ → DefaultDuration → Outcome
-opened_of size c d l = cond (ltb 128 c || ltb 128 d) (outcome.Refused LimitOutOfRange) (opening_of c d size l)
+abbrev pub opened_of : ℕ → ℕ → ℕ → Option Duration → Result ⊤ Refusal
+opened_of size c d l = cond (ltb 128 c || ltb 128 d) (Err LimitOutOfRange) (opening_of c d size l)
 
-unfoldable pub opening : ℕ → ℕ → ℕ → ℕ → DefaultDuration → Step
+unfoldable pub opening : ℕ → ℕ → ℕ → ℕ → Option Duration → Step
 opening size c d s l = by_outcome (opened_of size c d l) (running (fresh c d (default_of l)) (heap.opened d factor s))
 
 unfoldable pub calling : Tick → book.Call → Book → Heap → Step
@@ -88,8 +83,8 @@ unfoldable pub malformed : Book → Heap → Step
 malformed p h = (running p h, line_of (answer.Refused MalformedLine) (counts 0 p h))
 
 abbrev pub step : ℕ → State → Option Form → Step
-step size waiting (Some (form.Book c d s)) = opening size c d s asked.Nothing
-step size waiting (Some (form.BookWithTtl c d s l)) = opening size c d s (asked.Of (duration_of l.secs l.nanos))
+step size waiting (Some (form.Book c d s)) = opening size c d s None
+step size waiting (Some (form.BookWithTtl c d s l)) = opening size c d s (Some (duration_of l.secs l.nanos))
 step size waiting (Some (form.At t c)) = refused_first MalformedLine
 step size waiting None = refused_first MalformedLine
 step size (running p h) (Some (form.At t c)) = calling (record { 0 = t }) (call_of c) p h
@@ -169,7 +164,3 @@ pub record Tells (ws : List ℕ) (r : Reply) (out out' : List ℕ) (n : ℕ) : T
   pub lent : length out' ≡ length out
   pub within : n ≤ length out
   pub written : IsBook ws r.book → Written out (line_of r.answer (counts r.discarded (model_of ws r.book 0 0) (heap_of ws r.book))) out' n
-
-abbrev pub number_in : Count → ℕ
-number_in (count.Number n) = n
-number_in (count.Refused why) = 0

@@ -1,8 +1,8 @@
 // The printer: an answer's one text.
-ghost use Rattle.std.specs.Prelude.{◌++◌};
-ghost use Rattle.text.specs.Text.{bytes, decimal};
+ghost use Rattle.std.specs.Prelude.{◌≡◌, ◌++◌};
+ghost use Rattle.text.specs.Text.{decimal};
 ghost use Rattle.text.specs.Writing.{Puts};
-ghost use Rattle.session.specs.Answers.{Prints, head_of, tail_of};
+ghost use Rattle.session.specs.Answers.{Prints, head_of, shaped, tail_of};
 
 use expiring_model::Answer;
 
@@ -18,45 +18,62 @@ pub struct Counts {
 pub fn print(out: &mut [u8], answer: Answer, counts: Counts) -> usize
     ensures { Prints out.old answer counts out.new result }
 {
-    let at = head(out, answer);
+    let at = head(out, shape_of(answer));
     tail(out, at, counts)
 }
 
-// The opening bracket and the answer itself.
-fn head(out: &mut [u8], answer: Answer) -> usize
-    ensures { Puts out.old 0 (head_of answer) out.new result }
+// An answer as it is printed: its name, and the numbers behind it.
+#[derive(Clone, Copy)]
+enum Shape<'a> {
+    Name(&'a [u8]),
+    One(&'a [u8], u64),
+    Two(&'a [u8], u64, u64),
+}
+
+fn shape_of(answer: Answer) -> Shape<'static>
+    ensures { shaped result ≡ head_of answer }
 {
     match answer {
-        Answer::Nothing => text::put(out, 0, b"(none"),
-        Answer::Value(v) => one(out, b"((value ", v),
-        Answer::Yes => text::put(out, 0, b"(yes"),
-        Answer::No => text::put(out, 0, b"(no"),
-        Answer::Missing => text::put(out, 0, b"(missing"),
-        Answer::Immortal => text::put(out, 0, b"(immortal"),
-        Answer::Expired => text::put(out, 0, b"(expired"),
-        Answer::Live(ttl, deadline) => two(out, b"((live ", ttl.0, deadline.0),
-        Answer::Count(n) => one(out, b"((count ", n),
-        Answer::Due(key, deadline) => two(out, b"((due ", key, deadline.0),
-        Answer::Item(key, value) => two(out, b"((item ", key, value),
-        Answer::Rank(n) => one(out, b"((rank ", n),
-        Answer::Done => text::put(out, 0, b"(done"),
-        Answer::Refused(why) => one(out, b"((refused ", why.number()),
+        Answer::Nothing => Shape::Name(b"none"),
+        Answer::Value(v) => Shape::One(b"value", v),
+        Answer::Yes => Shape::Name(b"yes"),
+        Answer::No => Shape::Name(b"no"),
+        Answer::Missing => Shape::Name(b"missing"),
+        Answer::Immortal => Shape::Name(b"immortal"),
+        Answer::Expired => Shape::Name(b"expired"),
+        Answer::Live(ttl, deadline) => Shape::Two(b"live", ttl.0, deadline.0),
+        Answer::Count(n) => Shape::One(b"count", n),
+        Answer::Due(key, deadline) => Shape::Two(b"due", key, deadline.0),
+        Answer::Item(key, value) => Shape::Two(b"item", key, value),
+        Answer::Rank(n) => Shape::One(b"rank", n),
+        Answer::Done => Shape::Name(b"done"),
+        Answer::Refused(why) => Shape::One(b"refused", why.number()),
     }
 }
 
-fn one(out: &mut [u8], name: &[u8], number: u64) -> usize
-    ensures { Puts out.old 0 (name.now ++ (decimal number ++ bytes ")")) out.new result }
+// The opening bracket and the answer itself.
+fn head(out: &mut [u8], shape: Shape) -> usize
+    ensures { Puts out.old 0 (shaped shape.entry) out.new result }
 {
-    let at = field(out, 0, name, number);
-    text::put(out, at, b")")
-}
-
-fn two(out: &mut [u8], name: &[u8], first: u64, second: u64) -> usize
-    ensures { Puts out.old 0 (name.now ++ (decimal first ++ (bytes " " ++ (decimal second ++ bytes ")")))) out.new result }
-{
-    let at = field(out, 0, name, first);
-    let at = field(out, at, b" ", second);
-    text::put(out, at, b")")
+    match shape {
+        Shape::Name(name) => {
+            let at = text::put(out, 0, b"(");
+            text::put(out, at, name)
+        }
+        Shape::One(name, number) => {
+            let at = text::put(out, 0, b"((");
+            let at = text::put(out, at, name);
+            let at = field(out, at, b" ", number);
+            text::put(out, at, b")")
+        }
+        Shape::Two(name, first, second) => {
+            let at = text::put(out, 0, b"((");
+            let at = text::put(out, at, name);
+            let at = field(out, at, b" ", first);
+            let at = field(out, at, b" ", second);
+            text::put(out, at, b")")
+        }
+    }
 }
 
 // The counts, the closing bracket and the newline.

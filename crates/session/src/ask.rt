@@ -30,7 +30,7 @@ pub fn ask(book: Expiring, words: &mut [u64], tick: Tick, call: Call) -> Reply
     }
 }
 
-// A lifetime as the book is told it.
+// A lifetime as the book is told it. (No `From`: neither type is of this crate.)
 pub fn duration(ttl: Lifetime) -> Duration
     ensures { result ≡ duration_of ttl.secs ttl.nanos }
 {

@@ -1,14 +1,13 @@
 // One line of a session.
 ghost use Rattle.std.specs.Prelude.{◌≡◌, ◌≤◌, length};
-ghost use Rattle.session.specs.Session.{waiting, step, opening, room, Steps, Begins, Opens, Continues, Replies, Tells, number_in};
+ghost use Rattle.session.specs.Session.{waiting, step, opening, room, Steps, Begins, Opens, Continues, Replies, Tells};
 
 use crate::answer::Counts;
 use crate::{answer, ask};
-use expiration_index::Count;
 use expiring::{Expiring, Reply};
-use expiring_model::{Answer, DefaultDuration};
+use expiring_model::Answer;
 use forms::Form;
-use time::{Outcome, Refusal, Tick};
+use time::{Duration, Refusal, Tick};
 
 // A session before its first line, with its book, or after a refused first line.
 #[derive(Clone, Copy)]
@@ -74,12 +73,9 @@ fn open_by(words: &mut [u64], form: Option<Form>) -> Result<Expiring, Refusal>
     ensures { Opens words.old (step (length words.old) waiting form) words.new result }
 {
     match form {
-        Some(Form::Book(capacity, limit, seq)) => {
-            open(words, capacity, limit, seq, DefaultDuration::Nothing)
-        }
+        Some(Form::Book(capacity, limit, seq)) => open(words, capacity, limit, seq, None),
         Some(Form::BookWithTtl(capacity, limit, seq, ttl)) => {
-            let default_ttl = DefaultDuration::Of(ask::duration(ttl));
-            open(words, capacity, limit, seq, default_ttl)
+            open(words, capacity, limit, seq, Some(ask::duration(ttl)))
         }
         Some(Form::At(_, _)) | None => Err(Refusal::MalformedLine),
     }
@@ -90,18 +86,14 @@ fn open(
     capacity: u64,
     limit: u64,
     seq: u64,
-    default_ttl: DefaultDuration,
+    default_ttl: Option<Duration>,
 ) -> Result<Expiring, Refusal>
     ensures { Opens words.old (opening (length words.old) capacity limit seq default_ttl) words.new result }
 {
     if 128 < capacity || 128 < limit {
         return Err(Refusal::LimitOutOfRange);
     }
-    let opened = Expiring::open(words, capacity as usize, limit as usize, seq, default_ttl);
-    match opened.outcome {
-        Outcome::Done => Ok(opened.book),
-        Outcome::Refused(why) => Err(why),
-    }
+    Expiring::open(words, capacity as usize, limit as usize, seq, default_ttl)
 }
 
 // What a book answers to a later line: to a call what the call does, to any other line refusal 6.
@@ -125,17 +117,8 @@ fn tell(reply: Reply, words: &[u64], out: &mut [u8]) -> usize
 {
     let counts = Counts {
         discarded: reply.discarded as u64,
-        heap: number_of(reply.book.heap_len(words)),
-        held: number_of(reply.book.deadlines_held(words)),
+        heap: reply.book.heap_len(words).unwrap_or(0) as u64,
+        held: reply.book.deadlines_held(words).unwrap_or(0) as u64,
     };
     answer::print(out, reply.answer, counts)
-}
-
-fn number_of(count: Count) -> u64
-    ensures { result ≡ number_in count }
-{
-    match count {
-        Count::Number(n) => n as u64,
-        Count::Refused(_) => 0,
-    }
 }

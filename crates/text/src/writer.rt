@@ -1,14 +1,16 @@
 // Writing by a format.
-ghost use Rattle.std.specs.Prelude.{◌≡◌, ◌+◌, ◌<◌, ◌≤◌, length};
+ghost use Rattle.std.specs.Prelude.{◌≡◌, ◌+◌, ◌≤◌, length};
 ghost use Rattle.text.specs.Text.{decimal};
 ghost use Rattle.text.specs.Writing.{Spells, Puts};
 
 // How many digits a number has.
 fn places(n: u64) -> usize
-    requires { 0 < n }
     ensures { result ≡ length (decimal n) }
 {
-    n.ilog10() as usize + 1
+    match n.checked_ilog10() {
+        Some(log) => log as usize + 1,
+        None => 1,
+    }
 }
 
 // Writes the last digits of a number, so many of them.

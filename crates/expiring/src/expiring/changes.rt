@@ -1,16 +1,21 @@
 // Calls that set and drop deadlines and values, on a book whose numbers stand in words.
-ghost use Rattle.std.specs.Prelude.{◌≡◌, ◌≤◌, length};
+#![tactic(auto, using(crate::proofs::Changing::admitted_ready))]
+
+ghost use Rattle.std.specs.Prelude.{◌≡◌, ℕ, ◌≤◌, length};
 ghost use Rattle.expiring_model.specs.Model.{set, drop, get, remove, insert, insert_with_ttl, set_ttl};
-ghost use Rattle.fast_lru_model.specs.Model.{without};
-ghost use Rattle.expiring.specs.Numbers.{book_in, with_expiration};
+ghost use Rattle.fast_lru_model.specs.Model.{Items, value_of, without};
+ghost use Rattle.fast_lru.specs.declared.lru.FastLru.{FastLru};
+ghost use Rattle.fast_lru.specs.Calls as lru;
+ghost use Rattle.expiring.specs.Numbers.{lru_in, book_in, with_expiration};
 ghost use Rattle.expiring.specs.Calls.{SettingTtl};
-ghost use Rattle.expiring.specs.Changes.{Ready, Stay, reply_in, admitted, saying, Setting, Dropping, Getting, Putting, Taking, Concluding, Changing};
+ghost use Rattle.expiring.specs.Changes.{Ready, Stay, reply_in, admitted, saying, Setting, Dropping, Valuing, Getting, Putting, Taking, Concluding, Changing};
 ghost use Rattle.expiring.specs.Steps.{Moved, Inserting, Removing};
 
 use crate::answers::Reply;
 use crate::numbers;
 use expiring_answers::{has_come, of_found};
 use expiring_model::Answer;
+use fast_lru::FastLru;
 use lazy_heap_model::Counted;
 use time::{Duration, Refusal, Tick, TtlTicks};
 
@@ -65,37 +70,45 @@ fn drop_deadline(numbers: &mut [u64], words: &mut [u64], key: u64) -> Option<Tic
     removed.answer
 }
 
+// A call of the list, whose numbers stand in words. It answers the value that the key had; only what is no book may the list refuse.
+fn on_list<F: FnOnce(&mut FastLru, &mut [u64]) -> Result<Option<u64>, Refusal>>(
+    numbers: &mut [u64],
+    words: &mut [u64],
+    call: F,
+) -> Option<u64>
+    requires numbers { 12 ≤ length numbers.old }
+    requires callable { F.IsAlwaysCallable call }
+    ensures { (k : ℕ) (f : FastLru → Items → Items) → ((l w r l' w' : _) → F.post call l w r l' w' → lru.Changing w.now l.now (value_of k) (f l.now) w'.now l'.now r) → Valuing numbers.old words.old k (f (lru_in numbers.old)) numbers.new words.new result }
+{
+    let mut list = numbers::list_in(numbers);
+    let value = call(&mut list, words);
+    numbers::store_list(numbers, list);
+    value.unwrap_or(None)
+}
+
 fn get_value(numbers: &mut [u64], words: &mut [u64], key: u64) -> Option<u64>
     requires { 12 ≤ length numbers.old }
     ensures { Getting numbers.old words.old key numbers.new words.new result }
 {
-    let mut list = numbers::list_in(numbers);
-    let found = list.get(words, key);
-    numbers::store_list(numbers, list);
-    found.unwrap_or(None)
+    on_list(numbers, words, |list, words| list.get(words, key))
 }
 
 fn put_value(numbers: &mut [u64], words: &mut [u64], key: u64, value: u64) -> Option<u64>
     requires { 12 ≤ length numbers.old }
     ensures { Putting numbers.old words.old key value numbers.new words.new result }
 {
-    let mut list = numbers::list_in(numbers);
-    let replaced = list.insert(words, key, value);
-    numbers::store_list(numbers, list);
-    replaced.unwrap_or(None)
+    on_list(numbers, words, |list, words| list.insert(words, key, value))
 }
 
 fn drop_value(numbers: &mut [u64], words: &mut [u64], key: u64) -> Option<u64>
     requires { 12 ≤ length numbers.old }
     ensures { Taking numbers.old words.old key numbers.new words.new result }
 {
-    let mut list = numbers::list_in(numbers);
-    let removed = list.remove(words, key);
-    numbers::store_list(numbers, list);
-    removed.unwrap_or(None)
+    on_list(numbers, words, |list, words| list.remove(words, key))
 }
 
 // One expiration more; the count stops at u64::MAX.
+#[tactic(auto, unfolding(crate::specs::Numbers::with_expiration))]
 fn count_expiration(numbers: &mut [u64])
     requires { 12 ≤ length numbers.old }
     ensures { numbers.new ≡ with_expiration numbers.old }

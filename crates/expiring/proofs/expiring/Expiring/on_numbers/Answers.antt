@@ -1,6 +1,5 @@
 -- The numbers that were stored tell the book itself.
 use native.Mathlib.Omega.{arith}
-use borrow.Author.Rules.{rules}
 use Rattle.expiring.proofs.Changing.{told_of}
 use Rattle.expiring.proofs.expiring.Expiring.on_numbers.Goals as goal
 

@@ -1,5 +1,4 @@
-use mathlib.Core.Path.{◌∙◌}
-use Rattle.expiring.proofs.Moving.{lent_answers, index_kept}
+use Rattle.expiring.proofs.Moving.{lent_answers}
 use Rattle.expiring.proofs.Popping.{popping_none, popping_some}
 use Rattle.expiring.proofs.Valuing.{moved_values}
 use Rattle.expiring.proofs.expiring.Expiring.pop_expired.Goals as goal

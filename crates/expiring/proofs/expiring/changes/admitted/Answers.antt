@@ -1,4 +1,3 @@
-use native.Mathlib.Omega.{arith}
 use borrow.Author.Tests.{lt-ltb, le-ltb}
 use Rattle.expiring.specs.Changes.{admitted}
 use Rattle.expiring.proofs.expiring.changes.admitted.Goals as goal

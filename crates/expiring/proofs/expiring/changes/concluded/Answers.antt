@@ -1,9 +1,6 @@
 use mathlib.Core.Path.{sym, ◌∙◌}
-use Rattle.expiring.proofs.Changing.{concluding_expired, concluding_found}
+use Rattle.expiring.proofs.Changing.{concluding_expired}
 use Rattle.expiring.proofs.expiring.changes.concluded.Goals as goal
 
 pub returns-then-has_come : goal.returns-then-has_come
 returns-then-has_come c = rw c.count_expiration.ensures (concluding_expired _ _ _ c.requires (sym c.has_come.ensures ∙ c.if-has_come.true))
-
-pub returns : goal.returns
-returns c = concluding_found _ _ _ (sym c.has_come.ensures ∙ c.if-has_come.false) c.of_found.ensures

@@ -1,5 +1,6 @@
-use Rattle.expiring.proofs.Changing.{valuing}
+use borrow.Author.Rules.{rules}
+use Rattle.fast_lru_model.specs.Model.{without}
 use Rattle.expiring.proofs.expiring.changes.drop_value.Goals as goal
 
 pub returns : goal.returns
-returns c = rw (c.unwrap_or.ensures, c.store_list.ensures) (valuing c.requires (rw c.list_in-list.ensures at c.remove-removed.ensures))
+returns c = c.on_list.ensures c.args.key (λ l. without c.args.key) (λ l w r l' w' p. search rules)

@@ -12,30 +12,6 @@ use Rattle.expiring.proofs.expiring.changes.get.Goals as goal
 pub returns-in-Err : goal.returns-in-Err
 returns-in-Err c = rw c.saying.ensures (turned_back (sym c.admitted.ensures ∙ c.in-Err.is))
 
-pub book_in-book-requires : goal.book_in-book-requires
-book_in-book-requires c =
-    let ns = c.args.numbers.now in
-    let ready = admitted_ready ns (sym c.admitted.ensures ∙ c.in_default.is) in
-    ready.numbers
-
-pub is_expired-requires : goal.is_expired-requires
-is_expired-requires c =
-    let ns = c.args.numbers.now in
-    let ready = admitted_ready ns (sym c.admitted.ensures ∙ c.in_default.is) in
-    rw c.book_in-book.ensures ready.room
-
-pub drop_both-requires : goal.drop_both-requires
-drop_both-requires c =
-    let ns = c.args.numbers.now in
-    let ready = admitted_ready ns (sym c.admitted.ensures ∙ c.in_default.is) in
-    ready
-
-pub count_expiration-requires : goal.count_expiration-requires
-count_expiration-requires c =
-    let ns = c.args.numbers.now in
-    let ready = admitted_ready ns (sym c.admitted.ensures ∙ c.in_default.is) in
-    omega (arith, c.drop_both.ensures.0.size, ready.numbers)
-
 pub returns-then-is_expired : goal.returns-then-is_expired
 returns-then-is_expired c =
     let ns = c.args.numbers.now in
@@ -45,12 +21,6 @@ returns-then-is_expired c =
     let stay = c.drop_both.ensures.0 in
     let still : 12 ≤ length c.drop_both.new.numbers = omega (arith, stay.size, ready.numbers) in
     changing ready.numbers (rw c.count_expiration.ensures (stay_then stay (stay_expiration _))) (rw c.saying-then-is_expired.ensures (told_in_lem c.count_expiration.new.numbers (rw c.count_expiration.ensures (sym (expiration_stored _ still))) (follow_get_expired _ (book_in ns) _ limits w (rw c.book_in-book.ensures at c.is_expired.ensures) c.if-is_expired.true c.drop_both.ensures.1)))
-
-pub get_value-requires : goal.get_value-requires
-get_value-requires c =
-    let ns = c.args.numbers.now in
-    let ready = admitted_ready ns (sym c.admitted.ensures ∙ c.in_default.is) in
-    ready.numbers
 
 pub returns : goal.returns
 returns c =

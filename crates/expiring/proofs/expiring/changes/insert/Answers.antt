@@ -1,7 +1,7 @@
 use mathlib.Core.Path.{sym, ◌∙◌}
-use Prim.Native.Nat.{◌^◌, ◌<◌, ◌≤◌}
+use Prim.Native.Nat.{◌^◌, ◌<◌}
 use native.Mathlib.Omega.{arith}
-use lib.ListN.{length, get_or}
+use lib.ListN.{get_or}
 use Rattle.expiring.specs.Numbers.{book_in}
 use Rattle.expiring.proofs.Limits.{room_limits}
 use Rattle.expiring.proofs.Following.{follow_insert, follow_insert_default}
@@ -10,24 +10,6 @@ use Rattle.expiring.proofs.expiring.changes.insert.Goals as goal
 
 pub returns-in-Err : goal.returns-in-Err
 returns-in-Err c = rw c.saying.ensures (turned_back (sym c.admitted.ensures ∙ c.in-Err.is))
-
-pub book_in-book-requires : goal.book_in-book-requires
-book_in-book-requires c =
-    let ns = c.args.numbers.now in
-    let ready = admitted_ready ns (sym c.admitted.ensures ∙ c.in_default.is) in
-    ready.numbers
-
-pub insert_until-requires : goal.insert_until-requires
-insert_until-requires c =
-    let ns = c.args.numbers.now in
-    let ready = admitted_ready ns (sym c.admitted.ensures ∙ c.in_default.is) in
-    ready
-
-pub insert_forever-requires : goal.insert_forever-requires
-insert_forever-requires c =
-    let ns = c.args.numbers.now in
-    let ready = admitted_ready ns (sym c.admitted.ensures ∙ c.in_default.is) in
-    ready
 
 pub returns-in-Some : goal.returns-in-Some
 returns-in-Some c =

@@ -1,7 +1,7 @@
 use mathlib.Core.Path.{sym, ◌∙◌}
-use Prim.Native.Nat.{◌^◌, ◌<◌, ◌≤◌}
+use Prim.Native.Nat.{◌^◌, ◌<◌}
 use native.Mathlib.Omega.{arith}
-use lib.ListN.{length, get_or}
+use lib.ListN.{get_or}
 use Rattle.expiring.specs.Numbers.{book_in}
 use Rattle.expiring.proofs.Limits.{room_limits}
 use Rattle.expiring.proofs.Following.{follow_remove}
@@ -10,12 +10,6 @@ use Rattle.expiring.proofs.expiring.changes.remove.Goals as goal
 
 pub returns-in-Err : goal.returns-in-Err
 returns-in-Err c = rw c.saying.ensures (turned_back (sym c.admitted.ensures ∙ c.in-Err.is))
-
-pub remove_within-requires : goal.remove_within-requires
-remove_within-requires c =
-    let ns = c.args.numbers.now in
-    let ready = admitted_ready ns (sym c.admitted.ensures ∙ c.in_default.is) in
-    ready
 
 pub returns : goal.returns
 returns c =

@@ -21,13 +21,6 @@ returns-in-Err-duration_to_ticks c =
     let n = no_duration _ (sym c.duration_to_ticks.ensures ∙ c.in-Err-duration_to_ticks.is) in
     changing ready.numbers (stay_same ns) (rw (c.saying-in-Err-duration_to_ticks.ensures, n.1) (follow_nanos _ (book_in ns) _ _ (room_limits ready.room) n.0))
 
-pub set_ttl_within-requires : goal.set_ttl_within-requires
-unfolding bad_nanos
-set_ttl_within-requires c =
-    let ns = c.args.numbers.now in
-    let ready = admitted_ready ns (sym c.admitted.ensures ∙ c.in_default.is) in
-    ready
-
 pub returns-in-Ok : goal.returns-in-Ok
 unfolding bad_nanos
 returns-in-Ok c =
