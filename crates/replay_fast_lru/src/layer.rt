@@ -45,6 +45,7 @@ impl Layer for List {
     }
 
     fn run(words: &mut [u64], lru: &mut FastLru, calls: &[u64], answers: &mut [u64], count: usize) {
+        // A turn runs one call or more.
         let mut i = 0;
         while i < count {
             i = runs::run_on(words, lru, calls, answers, i, count);
