@@ -1,10 +1,13 @@
 use mathlib.Core.Path.{sym, ◌∙◌}
-use Rattle.lazy_heap.proofs.Calling.{handed_on, limits_room}
-use Rattle.lazy_heap.proofs.Updating.{updating_refused}
+use Rattle.lazy_heap.proofs.Calling.{limits_room, place_some}
+use Rattle.lazy_heap.proofs.Updating.{over_full, updating, updating_full}
 use Rattle.lazy_heap.proofs.heap.LazyMinHeap.update.Goals as goal
 
-pub returns-in_err-heap : goal.returns-in_err-heap
-returns-in_err-heap c = rw (handed_on c.from_residual.ensures) (updating_refused (sym c.heap.ensures ∙ c.in_err-heap.was))
+pub unwrap-place-requires : goal.unwrap-place-requires
+unwrap-place-requires c = place_some _ _ _ c.seek.ensures (limits_room _ _ (sym c.heap.ensures ∙ c.in_ok-heap.was))
 
-pub update_within-requires : goal.update_within-requires
-update_within-requires c = limits_room _ _ (sym c.heap.ensures ∙ c.in_ok-heap.was)
+pub returns-then-is_over : goal.returns-then-is_over
+returns-then-is_over c = updating_full (λ p. over_full _ _ (sym c.seek.ensures ∙ c.unwrap-place.ensures) p ∙ sym c.is_over.ensures ∙ c.if-is_over.true) (limits_room _ _ (sym c.heap.ensures ∙ c.in_ok-heap.was))
+
+pub returns : goal.returns
+returns c = updating c.fit_number-renumbered.ensures c.hold-answer.ensures c.fit_entries-rebuilt.ensures (limits_room _ _ (sym c.heap.ensures ∙ c.in_ok-heap.was)) (λ p. over_full _ _ (sym c.seek.ensures ∙ c.unwrap-place.ensures) p ∙ sym c.is_over.ensures ∙ c.if-is_over.false) c.saturating_add.ensures

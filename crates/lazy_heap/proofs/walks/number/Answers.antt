@@ -4,8 +4,8 @@ use Rattle.std.specs.Prelude.{Some, Ok}
 use native.Mathlib.Omega.{arith}
 use Rattle.std.proofs.Common.{rules}
 use Rattle.lazy_heap.proofs.Refilling.{numbering_start, numbering_on}
-use Rattle.lazy_heap.proofs.Stepping.{numbering, numbering_lost}
-use Rattle.lazy_heap.proofs.heap.LazyMinHeap.number_within.Goals as goal
+use Rattle.lazy_heap.proofs.Stepping.{numbering_lost}
+use Rattle.lazy_heap.proofs.walks.number.Goals as goal
 
 pub loop-number-init : goal.loop-number-init
 loop-number-init c = let all : c.args.scores.len - 0 ≡ c.args.scores.len = omega arith in rw all (numbering_start _ _ c.last-at.ensures)
@@ -15,6 +15,3 @@ returns-in_default c = numbering_lost c.loop-number.invariant (omega arith) (λ 
 
 pub loop-number-preserved : goal.loop-number-preserved
 loop-number-preserved c = let some : c.loop-number.at ≡ Ok (Some c.in-Ok-Some.s) = search rules in numbering_on c.loop-number.invariant (omega arith) some c.record-r.ensures c.set_payload.ensures c.previous-at.ensures
-
-pub returns : goal.returns
-returns c = numbering c.loop-number.invariant (λ is. omega (arith, is.count))
