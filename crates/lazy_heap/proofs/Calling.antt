@@ -1,4 +1,4 @@
--- What the calls come to: refused, or a definition's answer on a heap, and a heap again.
+-- What the calls come to where they are not refused: a definition's answer on a heap, and a heap again.
 use mathlib.Core.Path.{◌≡◌, refl, sym, ap, ◌∙◌, subst}
 use mathlib.Core.Bool.{Bool, true, false, cond}
 use mathlib.Core.List.{List, []}
@@ -27,7 +27,7 @@ use Rattle.lazy_heap_model.specs.Model.{Heap, at_least_one, too_many, held_score
 use Rattle.lazy_heap.specs.Valid.{Valid}
 use Rattle.lazy_heap.specs.Heap.{model_of, Parts, IsHeap}
 use Rattle.lazy_heap.specs.Steps.{Rebuilding, Renumbering, Trimming, TakingKey}
-use Rattle.lazy_heap.specs.Calls.{counted, Call, Discards, Opening, Resetting, RebuildingNow, RebuildingMaybe, RenumberingNow, Clearing, Asking, Removing, Besting}
+use Rattle.lazy_heap.specs.Calls.{counted, Call, Discards, Opening, Resetting, RebuildingNow, RebuildingMaybe, RenumberingNow, Clearing, Asking, Removing}
 use Rattle.lazy_heap.proofs.Parts.{part_same}
 use Rattle.lazy_heap.proofs.Valid.{valid_opened, valid_rebuilt, valid_renumbered, valid_removed, valid_cleared, valid_peeked, live_length, numbered_length, from_length}
 use Rattle.lazy_heap.proofs.Stepping.{same_heap, same_capacity, surplus_is, kept_same, rebuilt_model}
@@ -131,29 +131,13 @@ unfolding peeked
 fair_peeked {m} f = record { valid = valid_peeked m f.valid; few = omega (arith, from_length m.held m.entries, f.few); factor = f.factor }
 
 -- ---- calls
--- a call that asks is refused, or tells the value
+-- a call that asks tells the value
 module _ {A : Type 0} {ws : List ℕ} {h : LazyMinHeap} {value : Heap → A} where
-  pub asking_refused : {why : Refusal} → heap_limits h.scores.capacity (length ws) ≡ Err why → Asking ws h value (Err why)
-  asking_refused e = record { outcome = sym e; answer = λ is. absurd (no_heap e is) }
-
   pub asking_done : {x : A} → heap_limits h.scores.capacity (length ws) ≡ Ok tt → (IsHeap ws h → x ≡ value (model_of ws h)) → Asking ws h value (Ok x)
   asking_done t e = record { outcome = sym t; answer = λ is. ap Ok (e is) }
 
--- a call on a lent heap is refused, or done
+-- a call on a lent heap
 module _ {ws : List ℕ} {h : LazyMinHeap} {cause : Result ⊤ Refusal} {next : Heap → Heap} where
-  pub call_refused : {A : Type 0} {why : Refusal} → cause ≡ Err why → Call {A = A} ws h cause next ws h (Err why)
-  call_refused e = record {
-    outcome = sym e;
-    refused = λ w q. (refl, refl);
-    heap = λ t. cc;
-    model = λ t. cc;
-    capacity = refl;
-    kept = kept_same h.scores.capacity ws;
-  }
-
-  pub discards_refused : {count : Heap → ℕ} {why : Refusal} → cause ≡ Err why → Discards ws h cause next count ws h (Err why)
-  discards_refused e = record { call = call_refused e; answer = λ t. cc }
-
   module _ {ws' : List ℕ} {h' : LazyMinHeap} (t : cause ≡ Ok tt) (parts : IsHeap ws h → Parts ws' h') (model : IsHeap ws h → model_of ws' h' ≡ next (model_of ws h)) (fair : IsHeap ws h → Fair (next (model_of ws h))) (capacity : h'.scores.capacity ≡ h.scores.capacity) (kept : Kept h.scores.capacity ws ws') where
     pub call_done : {A : Type 0} {x : A} → Call ws h cause next ws' h' (Ok x)
     call_done = record {
@@ -167,9 +151,6 @@ module _ {ws : List ℕ} {h : LazyMinHeap} {cause : Result ⊤ Refusal} {next : 
 
     pub discards_done : {count : Heap → ℕ} {d : ℕ} → (IsHeap ws h → d ≡ count (model_of ws h)) → Discards ws h cause next count ws' h' (Ok d)
     discards_done e = record { call = call_done; answer = λ _ is. ap Ok (e is) }
-
-pub besting_refused : {ws : List ℕ} {h : LazyMinHeap} {next : Heap → Heap} {best : Heap → Option (ℕ × ℕ)} {why : Refusal} → heap_limits h.scores.capacity (length ws) ≡ Err why → Besting ws h next best ws h (Err why)
-besting_refused e = record { call = call_refused e; answer = λ is. absurd (no_heap e is) }
 
 -- ---- all entries at once
 module _ {ws ws' : List ℕ} {h h' : LazyMinHeap} {d : ℕ} where
@@ -243,15 +224,6 @@ module _ {ws ws' : List ℕ} (n f : ℕ) {r : Result LinkedHashMap Unfit} (t : h
       kept = record { size = o.kept.size; past = λ j b. o.kept.past j (omega arith) };
     }
 
-pub open_refused : {ws : List ℕ} {n f s : ℕ} {why : Refusal} → heap_limits_with n (length ws) f ≡ Err why → Opening ws n f s ws (Err why)
-open_refused {ws} {n} e = record {
-  outcome = sym e;
-  refused = λ w q. refl;
-  heap = λ h q. cc;
-  model = λ h q. cc;
-  kept = kept_same n ws;
-}
-
 module _ {ws ws' : List ℕ} (h : LazyMinHeap) {m : LinkedHashMap} {r : Result ⊤ Unfit} (t : heap_limits h.scores.capacity (length ws) ≡ Ok tt) (o : scores.Clearing ws h.scores ws' m r) where
   abbrev emptied : LazyMinHeap
   emptied = record { scores = m; entries = 0; seq = h.seq; factor = h.factor }
@@ -303,6 +275,3 @@ module _ {ws ws' : List ℕ} (h : LazyMinHeap) {k : ℕ} {m : LinkedHashMap} {a 
     numbers = λ i. record { scores = o.numbers i; entries = h.entries; seq = h.seq; factor = h.factor };
     answer = λ is. let was : Ok o.gone ≡ Ok (lookup k (model_of ws h).held) = out.answer is.parts.scores in let gone : o.gone ≡ lookup k (model_of ws h).held = cc in ap (λ (x : Option ℕ). Ok (counted x 0)) (o.answer ∙ ap held_score gone);
   }
-
-pub removing_refused : {ws : List ℕ} {h : LazyMinHeap} {k : ℕ} {why : Refusal} → heap_limits h.scores.capacity (length ws) ≡ Err why → Removing ws h k ws h (Err why)
-removing_refused e = record { call = call_refused e; numbers = refl; answer = λ is. absurd (no_heap e is) }

@@ -8,7 +8,7 @@ use native.Mathlib.Omega.{arith}
 use lib.Dec.{ltb, leb}
 use lib.ListN.{length, take, drop}
 use borrow.Author.Tests.{eq-eqb, ne_eqb, lt-ltb, le-leb}
-use Rattle.std.specs.Prelude.{Option, None, Some, Result, Ok, Err, min}
+use Rattle.std.specs.Prelude.{Option, None, Some, Ok, Err, min}
 use Rattle.binary_heap.specs.declared.entries.Entry.{Entry}
 use Rattle.binary_heap.specs.Order.{insert, sort}
 use Rattle.binary_heap.specs.Heap as array
@@ -18,7 +18,6 @@ use Rattle.rings.proofs.Counts.{by_lt}
 use Rattle.linked_hash_map.specs.declared.map.LinkedHashMap.{LinkedHashMap}
 use Rattle.linked_hash_map.specs.declared.map.Record.{Record}
 use Rattle.linked_hash_map.specs.declared.map.PutError.TheVariants.{Full}
-use Rattle.linked_hash_map.specs.declared.map.Unfit.{Unfit}
 use Rattle.linked_hash_map.specs.Model as scores
 use Rattle.linked_hash_map.specs.Map as map
 use Rattle.linked_hash_map.specs.Calls.{Putting}
@@ -29,7 +28,8 @@ use Rattle.lazy_heap_model.specs.Model.{Heap, entry_of, at_least_one, live_entri
 use Rattle.lazy_heap.specs.Heap.{held_of, entries_of, model_of, Parts}
 use Rattle.lazy_heap.specs.Steps.{replaced_score, Storing, Pushing, Rebuilding, Numbered, Renumbering, Fitting, Trimming, Holding}
 use Rattle.lazy_heap.proofs.Parts.{part_same}
-use Rattle.lazy_heap.proofs.Refilling.{Refilling, refilling_some, Numbering, numbering_some}
+use Rattle.lazy_heap.proofs.Settling.{entered_same}
+use Rattle.lazy_heap.proofs.Refilling.{Refilling, Numbering}
 
 abbrev of : ℕ → ℕ → ℕ → List Record → List Entry → Heap
 of l f n h e = record { limit = l; factor = f; next = n; held = h; entries = e }
@@ -48,7 +48,7 @@ parts_emptied : {ws : List ℕ} {h : LazyMinHeap} → Parts ws h → Parts ws (e
 parts_emptied {ws} {h} p = record { room = p.room; scores = p.scores; entries = heap_none (part h.scores.capacity ws) }
 
 -- where the walk has come to its end, as it does on the parts of a heap
-pub rebuilding : {ws ws' : List ℕ} {h h' : LazyMinHeap} {left d : ℕ} {at : Result (Option ℕ) Unfit} → Refilling ws (emptied h) ws' h' left at → d ≡ h.entries - h.scores.len → (Parts ws h → left ≡ 0) → Rebuilding ws h ws' h' d
+pub rebuilding : {ws ws' : List ℕ} {h h' : LazyMinHeap} {left s d : ℕ} → Refilling ws (emptied h) ws' h' left s → d ≡ h.entries - h.scores.len → (Parts ws h → left ≡ 0) → Rebuilding ws h ws' h' d
 rebuilding {ws} {h = h} f discarded none = record {
   entered = record {
     scores = f.entered.scores;
@@ -64,12 +64,18 @@ rebuilding {ws} {h = h} f discarded none = record {
   discarded = discarded;
 }
 
--- where it finds no slot, which it does on no parts
-pub rebuilding_lost : {ws ws' : List ℕ} {h h' : LazyMinHeap} {left d : ℕ} {at : Result (Option ℕ) Unfit} → Refilling ws (emptied h) ws' h' left at → d ≡ h.entries - h.scores.len → 0 < left → ((s : ℕ) → at ≡ Ok (Some s) → ⊥) → Rebuilding ws h ws' h' d
-rebuilding_lost f discarded more none = rebuilding f discarded (λ p. absurd (refilling_some f more none (parts_emptied p)))
+-- no heap holds more keys than its limit
+pub rebuilding_none : (ws : List ℕ) (h : LazyMinHeap) {d : ℕ} → h.scores.capacity < h.scores.len → d ≡ h.entries - h.scores.len → Rebuilding ws h ws h d
+rebuilding_none ws h over discarded = record {
+  entered = entered_same ws h;
+  count = λ p. absurd (omega (arith, p.scores.count));
+  parts = λ p. p;
+  entries = λ p. absurd (omega (arith, p.scores.count));
+  discarded = discarded;
+}
 
 -- ---- renumbering
-pub numbering : {ws ws' : List ℕ} {m : LinkedHashMap} {number left : ℕ} {at : Result (Option ℕ) Unfit} → Numbering ws m ws' number left at → (map.IsMap ws m → left ≡ 0) → Numbered ws m ws'
+pub numbering : {ws ws' : List ℕ} {m : LinkedHashMap} {number left s : ℕ} → Numbering ws m ws' number left s → (map.IsMap ws m → left ≡ 0) → Numbered ws m ws'
 numbering {ws} {ws'} {m} f none = record {
   scores = f.scores;
   held = λ is. f.renumbered is ∙ ap (λ (i : ℕ). take i (map.model_of ws m) ++ numbered (drop i (map.model_of ws m))) (none is);
@@ -77,8 +83,8 @@ numbering {ws} {ws'} {m} f none = record {
   past = f.past;
 }
 
-pub numbering_lost : {ws ws' : List ℕ} {m : LinkedHashMap} {number left : ℕ} {at : Result (Option ℕ) Unfit} → Numbering ws m ws' number left at → 0 < left → ((s : ℕ) → at ≡ Ok (Some s) → ⊥) → Numbered ws m ws'
-numbering_lost f more none = numbering f (λ is. absurd (numbering_some f more none is))
+pub numbering_none : (ws : List ℕ) (m : LinkedHashMap) → m.capacity < m.len → Numbered ws m ws
+numbering_none ws m over = record { scores = λ is. is; held = λ is. absurd (omega (arith, is.count)); size = refl; past = λ j g. refl }
 
 -- scores renumbered leave the entries as they are
 abbrev numbered_heap : LazyMinHeap → LazyMinHeap

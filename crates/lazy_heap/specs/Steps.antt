@@ -9,6 +9,7 @@ use Rattle.cells.specs.declared.Probe.TheVariants.{At, Free, Full}
 use Rattle.linked_hash_map.specs.declared.map.LinkedHashMap.{LinkedHashMap}
 use Rattle.linked_hash_map.specs.declared.map.Record.{Record}
 use Rattle.linked_hash_map.specs.declared.map.PutError.{PutError}
+use Rattle.linked_hash_map.specs.declared.map.Unfit.{Unfit}
 use Rattle.linked_hash_map.specs.Model.{lookup}
 use Rattle.linked_hash_map.specs.Map.{slot_at}
 use Rattle.linked_hash_map.specs.Map as map
@@ -17,6 +18,12 @@ use Rattle.lazy_heap.specs.declared.heap.LazyMinHeap.{LazyMinHeap}
 use Rattle.lazy_heap.specs.Words.{start, Kept}
 use Rattle.lazy_heap_model.specs.Model.{live, stale_before, from_live, surplus, live_entries, numbered, renumbered, too_many, is_full, before_push, maybe_rebuilt, pushed, removed, held_score}
 use Rattle.lazy_heap.specs.Heap.{held_of, entries_of, model_of, Parts}
+
+-- the number of a slot that was told, or another where there is none
+abbrev pub slot_number : Result (Option ℕ) Unfit → ℕ → ℕ
+slot_number (Ok (Some s)) none = s
+slot_number (Ok None) none = none
+slot_number (Err e) none = none
 
 -- the entries alone changed
 pub record Entered (ws : List ℕ) (h : LazyMinHeap) (ws' : List ℕ) (h' : LazyMinHeap) : Type 0 where

@@ -10,6 +10,7 @@ ghost use Rattle.lazy_heap.specs.Calls.{Opening, Resetting, Asking, is_empty, sc
 ghost use Rattle.lazy_heap.specs.Steps.{best_of, within, is_over, Storing, TakingKey, Living, Pushing, Popping, Peeking, CountingEntries, TakingTop, Settled, Discarding, Rebuilding, Renumbering, Fitting, Trimming, Holding};
 ghost use Rattle.lazy_heap.specs.Walks.{CountingWithin, Sound, Agreeing};
 
+use crate::walks::slot_number;
 use crate::{layout, walks};
 use binary_heap::Entry;
 use cells::Probe;
@@ -306,7 +307,7 @@ impl LazyMinHeap {
             && binary_heap::is_heap(&words[layout::entries(self.scores.capacity)], self.entries)
     }
 
-    // Scores and entries go together.
+    // Scores and entries go together. (The tally is as large as any heap needs, since the memory is fixed.)
     fn is_valid(self, words: &[u64]) -> bool
         requires { Room (length words.now) self.scores.capacity }
         ensures { Agreeing words.now self result }
@@ -422,20 +423,20 @@ impl LazyMinHeap {
     }
 
     // The live entries alone, pushed in sequence order: the walk is from the earliest set to the latest. It has a turn for
-    // each key held, and no more than the limit has, which numbers that are no heap's may pass. It answers how many entries
-    // there were more.
+    // each key held, so that it is not begun on numbers with more keys than the limit, which are no heap's. It answers how
+    // many entries there were more.
     fn rebuild_within(&mut self, words: &mut [u64]) -> usize
         requires { Room (length words.old) self.old.scores.capacity }
         ensures { Rebuilding words.old self.old words.new self.new result }
     {
         let discarded = self.surplus();
         let scores = self.scores;
+        if scores.capacity < scores.len {
+            return discarded;
+        }
         self.entries = 0;
-        let mut at = scores.last(words);
-        for _ in 0..scores.len.min(scores.capacity) {
-            let Ok(Some(s)) = at else {
-                return discarded;
-            };
+        let mut s = slot_number(scores.last(words), scores.capacity);
+        for _ in 0..scores.len {
             let r = scores.record(words, s);
             self.push(
                 words,
@@ -445,7 +446,7 @@ impl LazyMinHeap {
                     key: r.key,
                 },
             );
-            at = scores.previous(words, s);
+            s = slot_number(scores.previous(words, s), scores.capacity);
         }
         discarded
     }

@@ -1,13 +1,20 @@
-// Walks over the held keys and over the entries. A walk over the keys has a turn for each, and no more than the limit has,
-// which numbers that are no map's may pass.
+// Walks over the held keys and over the entries. Numbers with more keys than the limit, which are no map's, are not walked. (Two of the walks write the words between their steps, so that no iterator can
+// hold them; for the two others one would be longer than they are.)
 ghost use Rattle.std.specs.Prelude.{◌≡◌, length, get_or};
 ghost use Rattle.lazy_heap.specs.Words.{Room};
-ghost use Rattle.lazy_heap.specs.Steps.{Numbered};
+ghost use Rattle.lazy_heap.specs.Steps.{slot_number, Numbered};
 ghost use Rattle.lazy_heap.specs.Walks.{seen, CountingAtMost, LivingAt, Tallying, RecordsValid};
 
 use crate::layout;
 use binary_heap::Entry;
-use linked_hash_map::{LinkedHashMap, Record};
+use linked_hash_map::{LinkedHashMap, Record, Unfit};
+
+// The number of a slot that was told, or another where there is none.
+pub fn slot_number(at: Result<Option<usize>, Unfit>, none: usize) -> usize
+    ensures { result ≡ slot_number at none }
+{
+    at.ok().flatten().unwrap_or(none)
+}
 
 // The slot of the key whose live entry this is.
 pub fn live_slot(words: &[u64], scores: LinkedHashMap, entry: Entry) -> Option<usize>
@@ -26,15 +33,15 @@ pub fn live_slot(words: &[u64], scores: LinkedHashMap, entry: Entry) -> Option<u
 pub fn count_at_most(words: &[u64], scores: LinkedHashMap, score: u64) -> usize
     ensures { CountingAtMost words.now scores score result }
 {
+    if scores.capacity < scores.len {
+        return 0;
+    }
     let mut n = 0;
-    let mut at = scores.first(words);
-    for _ in 0..scores.len.min(scores.capacity) {
-        let Ok(Some(s)) = at else {
-            return n;
-        };
+    let mut s = slot_number(scores.first(words), scores.capacity);
+    for _ in 0..scores.len {
         let r = scores.record(words, s);
         n += (r.first <= score) as usize;
-        at = scores.next(words, s);
+        s = slot_number(scores.next(words, s), scores.capacity);
     }
     n
 }
@@ -43,11 +50,11 @@ pub fn count_at_most(words: &[u64], scores: LinkedHashMap, score: u64) -> usize
 pub fn number(words: &mut [u64], scores: LinkedHashMap)
     ensures { Numbered words.old scores words.new }
 {
-    let mut at = scores.last(words);
-    for number in 0..scores.len.min(scores.capacity) {
-        let Ok(Some(s)) = at else {
-            return;
-        };
+    if scores.capacity < scores.len {
+        return;
+    }
+    let mut s = slot_number(scores.last(words), scores.capacity);
+    for number in 0..scores.len {
         let r = scores.record(words, s);
         scores.set_payload(
             words,
@@ -56,7 +63,7 @@ pub fn number(words: &mut [u64], scores: LinkedHashMap)
                 ..r
             },
         );
-        at = scores.previous(words, s);
+        s = slot_number(scores.previous(words, s), scores.capacity);
     }
 }
 
@@ -68,17 +75,14 @@ pub fn records_valid(words: &[u64], scores: LinkedHashMap, seq: u64, tally: &[u6
     ensures { RecordsValid words.now scores seq tally.now result }
 {
     let mut bound = seq;
-    let mut at = scores.first(words);
+    let mut s = slot_number(scores.first(words), scores.capacity);
     for _ in 0..scores.len {
-        let Ok(Some(s)) = at else {
-            return false;
-        };
         let r = scores.record(words, s);
         if bound <= r.second || times(tally, s) != 1 {
             return false;
         }
         bound = r.second;
-        at = scores.next(words, s);
+        s = slot_number(scores.next(words, s), scores.capacity);
     }
     true
 }

@@ -1,15 +1,14 @@
-use mathlib.Core.Path.{◌≡◌}
-use Rattle.std.specs.Prelude.{Some, Ok}
-use native.Mathlib.Omega.{arith}
-use Rattle.std.proofs.Common.{rules}
-use Rattle.lazy_heap.proofs.Downward.{one_if, counting_on, counting_stop, counting_end}
+use Rattle.lazy_heap.proofs.Downward.{one_if, counting_none, counting_start, counting_on, counting_end}
 use Rattle.lazy_heap.proofs.walks.count_at_most.Goals as goal
 
-pub returns-in_default : goal.returns-in_default
-returns-in_default c = counting_stop c.loop.invariant (omega arith) (λ s q. search rules)
+pub returns-then-scores : goal.returns-then-scores
+returns-then-scores c = counting_none _ _ _ c.if-scores.true
+
+pub loop-init : goal.loop-init
+loop-init c = rw c.slot_number-s.ensures (counting_start _ _ _ c.first.ensures)
 
 pub loop-preserved : goal.loop-preserved
-loop-preserved c = let some : c.loop.at ≡ Ok (Some c.in-Ok-Some.s) = search rules in counting_on c.loop.invariant some c.record-r.ensures c.next-at.ensures (one_if _)
+loop-preserved c = rw c.slot_number-s-in-loop.ensures (counting_on c.loop.invariant c.loop-test.true c.record-r.ensures _ c.next.ensures (one_if _))
 
 pub returns : goal.returns
-returns c = counting_end c.loop.invariant (omega arith)
+returns c = counting_end c.loop.invariant c.loop-test.false
