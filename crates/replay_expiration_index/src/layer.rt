@@ -36,6 +36,7 @@ impl Layer for Index {
     fn step(words: &mut [u64], index: &mut ExpirationIndex, call: Call) -> Answer {
         let first = call.first;
         let second = call.second;
+        // Operations are numbers, as callers in C write them. The table of lib.rt names each, and only here is one told from another.
         match call.operation {
             0 => {
                 let opening = ExpirationIndex::open(words, first as usize, second);

@@ -1,11 +1,10 @@
 // The list as a layer: its numbers, and what each call does.
-ghost use Rattle.std.specs.Prelude.{◌<◌, ◌≤◌};
 ghost use Rattle.replay.specs.Runs.{Replayed};
 ghost use Rattle.replay_fast_lru.specs.Laws.{lru_stored, lru_past};
 ghost use Rattle.replay_fast_lru.specs.Numbers.{lru_in, with_lru};
 ghost use Rattle.replay_fast_lru.specs.Steps.{Ran, Single};
 
-use crate::runs;
+use crate::runs::{GET, INSERT, PEEK, TOUCH, make, run_on};
 use fast_lru::FastLru;
 use replay::{Answer, Call, Layer, Tell, replay};
 use replay_linked_hash_map::{map_in, store_map};
@@ -36,18 +35,19 @@ impl Layer for List {
 
     fn step(words: &mut [u64], lru: &mut FastLru, call: Call) -> Answer {
         match call.operation {
-            2 => runs::make::<2>(words, lru, call),
-            3 => runs::make::<3>(words, lru, call),
-            6 => runs::make::<6>(words, lru, call),
-            7 => runs::make::<7>(words, lru, call),
+            INSERT => make::<INSERT>(words, lru, call),
+            GET => make::<GET>(words, lru, call),
+            TOUCH => make::<TOUCH>(words, lru, call),
+            PEEK => make::<PEEK>(words, lru, call),
             _ => single(words, lru, call),
         }
     }
 
     fn run(words: &mut [u64], lru: &mut FastLru, calls: &[u64], answers: &mut [u64], count: usize) {
+        // A turn runs one call or more.
         let mut i = 0;
         while i < count {
-            i = runs::run_on(words, lru, calls, answers, i, count);
+            i = run_on(words, lru, calls, answers, i, count);
         }
     }
 
@@ -76,6 +76,7 @@ pub fn single(words: &mut [u64], lru: &mut FastLru, call: Call) -> Answer
     ensures { Ran words.old lru.old call words.new lru.new result }
 {
     let key = call.first;
+    // Operations are numbers, as callers in C write them. The table of lib.rt names each, and only here is one told from another.
     match call.operation {
         0 => {
             let opening = FastLru::new(words, key as usize);

@@ -8,6 +8,15 @@ use crate::layer::single;
 use fast_lru::FastLru;
 use replay::{Answer, Call, Tell, call_at, store_answer};
 
+// The operations that have a loop of their own.
+pub const INSERT: u64 = 2;
+
+pub const GET: u64 = 3;
+
+pub const TOUCH: u64 = 6;
+
+pub const PEEK: u64 = 7;
+
 // Runs a call, and where it is of an operation that has a loop of its own, those after it that are too. Says which call is
 // the next.
 pub fn run_on(
@@ -23,10 +32,10 @@ pub fn run_on(
 {
     let call = call_at(calls, from);
     match call.operation {
-        2 => alike::<2>(words, lru, calls, answers, from, count),
-        3 => alike::<3>(words, lru, calls, answers, from, count),
-        6 => alike::<6>(words, lru, calls, answers, from, count),
-        7 => alike::<7>(words, lru, calls, answers, from, count),
+        INSERT => alike::<INSERT>(words, lru, calls, answers, from, count),
+        GET => alike::<GET>(words, lru, calls, answers, from, count),
+        TOUCH => alike::<TOUCH>(words, lru, calls, answers, from, count),
+        PEEK => alike::<PEEK>(words, lru, calls, answers, from, count),
         _ => {
             let answer = single(words, lru, call);
             store_answer(answers, from, answer);
@@ -70,10 +79,10 @@ pub fn make<const OPERATION: u64>(words: &mut [u64], lru: &mut FastLru, call: Ca
 {
     let key = call.first;
     match OPERATION {
-        2 => lru.insert(words, key, call.second).tell(0),
-        3 => lru.get(words, key).tell(0),
-        6 => lru.touch(words, key).tell(0),
-        7 => lru.peek(words, key).tell(0),
+        INSERT => lru.insert(words, key, call.second).tell(0),
+        GET => lru.get(words, key).tell(0),
+        TOUCH => lru.touch(words, key).tell(0),
+        PEEK => lru.peek(words, key).tell(0),
         _ => single(words, lru, call),
     }
 }

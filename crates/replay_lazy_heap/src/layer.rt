@@ -35,6 +35,7 @@ impl Layer for Heap {
     fn step(words: &mut [u64], heap: &mut LazyMinHeap, call: Call) -> Answer {
         let first = call.first;
         let second = call.second;
+        // Operations are numbers, as callers in C write them. The table of lib.rt names each, and only here is one told from another.
         match call.operation {
             0 => {
                 let opening = LazyMinHeap::open(words, first as usize, second as usize, call.third);

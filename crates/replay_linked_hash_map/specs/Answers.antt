@@ -1,5 +1,5 @@
 -- The answers of the map's calls, in words. None discards anything, and none has a refusal's number.
-use Rattle.std.specs.Prelude.{Bool, ℕ, Option, Some, None, Result, Ok, Err, is_ok}
+use Rattle.std.specs.Prelude.{ℕ, Option, Some, None, Result, Ok, Err, is_ok}
 use Rattle.linked_hash_map.specs.declared.map.Record.{Record}
 use Rattle.linked_hash_map.specs.declared.map.Unfit.{Unfit}
 use Rattle.linked_hash_map.specs.declared.map.PutError.{PutError}

@@ -34,6 +34,7 @@ impl Layer for Map {
 
     fn step(words: &mut [u64], map: &mut LinkedHashMap, call: Call) -> Answer {
         let key = call.first;
+        // Operations are numbers, as callers in C write them. The table of lib.rt names each, and only here is one told from another.
         match call.operation {
             0 => {
                 let opening = LinkedHashMap::open(words, key as usize);
