@@ -43,3 +43,5 @@ module _ (ws : List ℕ) where
 
   pub checking_yes : {n i : ℕ} → fit n (length ws) ≡ true → n ≤ i → Ordered ws i → Checking ws n true
   checking_yes {n} {i} f l o = record { sound = λ _. record { room = is_room n (length ws) f; ordered = ordered_fewer n i l o }; complete = λ _. refl }
+
+pub ruleset checking = (is_room, ordered_one, ordered_next, checking_refused, checking_yes)

@@ -6,32 +6,24 @@ use Prim.Native.Nat.{ℕ, suc, ◌+◌, ◌<◌, ◌≤◌}
 use native.Mathlib.Omega.{arith}
 use native.Mathlib.Numerals.{add-one}
 use lib.Dec.{leb}
+use mir.Val.{bool_byte}
 use lib.ListN.{length}
-use borrow.Author.Tests.{le-leb, lt-leb}
 use Rattle.binary_heap.specs.declared.entries.Entry.{Entry}
 use Rattle.binary_heap.specs.Order.{is_at_most, at_most}
 use Rattle.binary_heap.specs.Entries.{entry_at, entries_of}
 use Rattle.binary_heap.specs.Heap.{fit, model_of}
 use Rattle.binary_heap.specs.Calls.{Counting}
 use Rattle.binary_heap.proofs.Sorting.{sort_at_most}
+use Rattle.binary_heap.proofs.Limits.{is_room}
 
--- one entry
-module _ (s : ℕ) (e : Entry) where
-  pub one_at_most : e.score ≤ s → 1 ≡ is_at_most s e
-  unfolding is_at_most
-  one_at_most h = sym (rw (le-leb e.score s h))
+-- a test as a number
+byte_is : (b : Bool) → bool_byte b ≡ cond b 1 0
+byte_is true = refl
+byte_is false = refl
 
-  pub none_above : s < e.score → 0 ≡ is_at_most s e
-  unfolding is_at_most
-  none_above h = sym (rw (lt-leb e.score s h))
-
-  pub at_most_one : (k : ℕ) → k ≡ is_at_most s e → k ≤ 1
-  unfolding is_at_most
-  at_most_one k q = rw q (go (leb e.score s))
-    where
-      go : (b : Bool) → cond b 1 0 ≤ 1
-      go true = omega arith
-      go false = omega arith
+at_most_one : (b : Bool) → bool_byte b ≤ 1
+at_most_one true = omega arith
+at_most_one false = omega arith
 
 at_most_append : (s : ℕ) (l m : List Entry) → at_most s (l ++ m) ≡ at_most s l + at_most s m
 unfolding at_most
@@ -53,11 +45,12 @@ module _ (ws : List ℕ) (n s : ℕ) where
   unfolding entries_of at_most
   at_most_last i = omega (arith, at_most_append s (entries_of ws i) (entry_at ws i ∷ []))
 
-  pub counted_next : {r i : ℕ} → Counted ws n s r i → i < n → (k : ℕ) → k ≡ is_at_most s (entry_at ws i) → Counted ws n s (r + k) (i + 1)
-  counted_next {r} {i} d l k e = record {
+  pub counted_next : {r i : ℕ} → Counted ws n s r i → i < n → {b : Bool} → b ≡ leb (entry_at ws i).score s → Counted ws n s (r + bool_byte b) (i + 1)
+  unfolding is_at_most
+  counted_next {r} {i} d l {b} e = record {
     within = omega arith;
-    few = omega (arith, at_most_one s (entry_at ws i) k e, d.few);
-    number = rw (add-one i) (omega (arith, at_most_last i, d.number));
+    few = omega (arith, at_most_one b, d.few);
+    number = rw (add-one i, byte_is b, e) (omega (arith, at_most_last i, d.number));
   }
 
   pub counting_refused : fit n (length ws) ≡ false → Counting ws n s 0
@@ -72,3 +65,5 @@ module _ (ws : List ℕ) (n s : ℕ) where
     where
       all : i ≡ n
       all = let w = d.within in omega arith
+
+pub ruleset counting = (is_room, counting_refused, counting_done)

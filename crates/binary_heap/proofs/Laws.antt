@@ -16,7 +16,7 @@ use Rattle.binary_heap.proofs.Places.{entries_length, entries_same, count_place,
 use Rattle.binary_heap.proofs.Limits.{room_fits}
 use Rattle.binary_heap.proofs.Least.{sort_least}
 -- lists of entries
-pub use Rattle.binary_heap.proofs.Order.{le_scores, le_same, le_then, le_total, le_both}
+pub use Rattle.binary_heap.proofs.Order.{le_by_score, le_by_seq, le_scores, le_same, le_then, le_total, le_both}
 pub use Rattle.binary_heap.proofs.Counts.{mem_count, count_mem}
 pub use Rattle.binary_heap.proofs.Sorting.{insert_length, insert_count, insert_cases, insert_new, insert_old, insert_least, insert_sorted, insert_swap}
 pub use Rattle.binary_heap.proofs.Sorting.{sort_length, sort_count, sort_mem, mem_sort, sort_sorted, sort_same, sorted_same}

@@ -1,4 +1,5 @@
 pub mod Order
+pub mod Derived
 pub mod Counts
 pub mod Sorting
 pub mod Words

@@ -4,7 +4,6 @@ use mathlib.Core.Bool.{Bool, true, false, true≢false}
 use Prim.Native.Nat.{ℕ, ◌<◌, ◌≤◌}
 use native.Mathlib.Decide.{ℕ_discrete, dec_le}
 use native.Mathlib.Omega.{arith}
-use lib.Dec.{leb, ltb}
 use borrow.Author.Tests.{lt-ltb, le-ltb, le-leb, leb-true, leb-false, eq-eqb, ne_eqb}
 use Rattle.binary_heap.specs.declared.entries.Entry.{Entry}
 use Rattle.binary_heap.specs.Order.{lex, le}
@@ -18,13 +17,6 @@ module _ (x y : ℕ) (r : Bool) where
 
   lex_more : y < x → lex x y r ≡ false
   lex_more h = rw (le-ltb x y (omega arith), ne_eqb x y (omega arith))
-
-  lex_other : (x ≡ y → ⊥) → ltb x y ≡ lex x y r
-  lex_other d = go (dec_le x y)
-    where
-      go : Dec (x ≤ y) → ltb x y ≡ lex x y r
-      go (yes l) = rw (lt-ltb x y (omega arith))
-      go (no l) = rw (le-ltb x y (omega arith), ne_eqb x y d)
 
   to_lex : x ≤ y → (x ≡ y → r ≡ true) → lex x y r ≡ true
   to_lex h k = go (ℕ_discrete x y)
@@ -50,20 +42,6 @@ lex_total x y r s k h = to_lex y x s (above (dec_le y x)) (λ e. k (sym (lex_sam
     above (yes l) = l
     above (no d) = absurd (true≢false (sym (lex_less x y r (omega arith)) ∙ h))
 
--- which number decides
-module _ (a b : Entry) where
-  pub by_score : (a.score ≡ b.score → ⊥) → ltb a.score b.score ≡ le a b
-  unfolding le
-  by_score d = lex_other _ _ _ d
-
-  pub by_seq : a.score ≡ b.score → (a.seq ≡ b.seq → ⊥) → ltb a.seq b.seq ≡ le a b
-  unfolding le
-  by_seq e d = lex_other _ _ _ d ∙ sym (lex_same _ _ _ e)
-
-  pub by_key : a.score ≡ b.score → a.seq ≡ b.seq → leb a.key b.key ≡ le a b
-  unfolding le
-  by_key e f = sym (lex_same _ _ _ e ∙ lex_same _ _ _ f)
-
 -- the order, as facts on the numbers
 record Le (a b : Entry) : Type 0 where
   pub scores : a.score ≤ b.score
@@ -82,6 +60,13 @@ module _ {a b : Entry} where
   to_le : Le a b → le a b ≡ true
   unfolding le
   to_le l = to_lex _ _ _ l.scores (λ e. to_lex _ _ _ (l.seqs e) (λ f. le-leb _ _ (l.keys e f)))
+
+-- a score below, or no score above and a sequence number below
+pub le_by_score : (a b : Entry) → a.score < b.score → le a b ≡ true
+le_by_score a b h = to_le (record { scores = omega arith; seqs = λ e. absurd (omega arith); keys = λ e. absurd (omega arith) })
+
+pub le_by_seq : (a b : Entry) → a.score ≤ b.score → a.seq < b.seq → le a b ≡ true
+le_by_seq a b h n = to_le (record { scores = h; seqs = λ e. omega arith; keys = λ e f. absurd (omega arith) })
 
 pub le_scores : (a b : Entry) → le a b ≡ true → a.score ≤ b.score
 le_scores a b h = let l : Le a b = facts h in l.scores

@@ -62,6 +62,8 @@ module _ (ws : List ℕ) where
     answer = λ h. sym (first_least (root_least ws n h.ordered pos));
   }
 
+pub ruleset peeking = (is_room, peeking_refused, peeking_none, peeking_root)
+
 -- a root was told: there is one
 pub record Rooted (ws : List ℕ) (n : ℕ) (e : Entry) : Type 0 where
   pub fits : fit n (length ws) ≡ true

@@ -1,9 +1,9 @@
 // Entries in words.
-ghost use Rattle.std.specs.Prelude.{◌≡◌, ◌+◌, ◌*◌, length};
-ghost use Rattle.binary_heap.specs.Order.{le, is_at_most};
+ghost use Rattle.std.specs.Prelude.{◌≡◌, ◌+◌, ◌*◌, leb, length};
+ghost use Rattle.binary_heap.specs.Order.{le};
 ghost use Rattle.binary_heap.specs.Entries.{entry_at, put_at, swap_at, Holds};
 
-#[derive(Clone, Copy, Default)]
+#[derive(Clone, Copy, Default, PartialEq, Eq, PartialOrd, Ord)]
 pub struct Entry {
     pub score: u64,
     pub seq: u64,
@@ -43,36 +43,19 @@ pub fn swap(words: &mut [u64], i: usize, j: usize)
     put(words, j, a);
 }
 
-// Whether a is not after b.
-fn precedes(a: Entry, b: Entry) -> bool
-    ensures { result ≡ le a b }
-{
-    if a.score != b.score {
-        return a.score < b.score;
-    }
-    if a.seq != b.seq {
-        return a.seq < b.seq;
-    }
-    a.key <= b.key
-}
-
-// Whether entry i is not after entry j. Most often the scores tell, and no other word is read.
+// Whether entry i is not after entry j.
 pub fn in_order(words: &[u64], i: usize, j: usize) -> bool
     requires { Holds (length words.now) i × Holds (length words.now) j }
     ensures { result ≡ le (entry_at words.now i) (entry_at words.now j) }
 {
-    let a = words[3 * i];
-    let b = words[3 * j];
-    if a != b {
-        return a < b;
-    }
-    precedes(get(words, i), get(words, j))
+    get(words, i) <= get(words, j)
 }
 
-// 1 where entry i has at most this score, and else 0. No other word is read.
-pub fn one_if_at_most(words: &[u64], i: usize, score: u64) -> usize
+// Whether entry i has at most this score.
+#[tactic(auto, unfolding(crate::specs::Entries::entry_at))]
+pub fn is_within(words: &[u64], i: usize, score: u64) -> bool
     requires { Holds (length words.now) i }
-    ensures { result ≡ is_at_most score (entry_at words.now i) }
+    ensures { result ≡ leb (entry_at words.now i).score score }
 {
-    if words[3 * i] <= score { 1 } else { 0 }
+    words[3 * i] <= score
 }

@@ -25,7 +25,7 @@ fn can_grow(len: usize, size: usize) -> bool
 }
 
 // Puts an entry into the heap. False where it finds no room, and then nothing changes.
-#[tactic(auto, using(crate::proofs::Limits::is_room))]
+#[tactic(auto, using(crate::proofs::Limits::is_room, crate::proofs::Pushing::pushing_refused))]
 pub fn push(words: &mut [u64], len: &mut usize, entry: Entry) -> bool
     ensures { Pushing words.old len.old entry words.new len.new result }
 {
@@ -40,7 +40,7 @@ pub fn push(words: &mut [u64], len: &mut usize, entry: Entry) -> bool
 }
 
 // The least entry, which stays.
-#[tactic(auto, using(crate::proofs::Limits::is_room, crate::proofs::Root::peeking_refused, crate::proofs::Root::peeking_none, crate::proofs::Root::peeking_root))]
+#[tactic(auto, using(crate::proofs::Root::peeking))]
 pub fn peek(words: &[u64], len: usize) -> Option<Entry>
     ensures { Peeking words.now len result }
 {
@@ -75,6 +75,7 @@ pub fn entry_at(words: &[u64], len: usize, i: usize) -> Entry
 }
 
 // How many entries have at most this score; 0 where the limits are not met.
+#[tactic(auto, using(crate::proofs::Counting::counting))]
 pub fn count_at_most(words: &[u64], len: usize, score: u64) -> usize
     ensures { Counting words.now len score result }
 {
@@ -82,27 +83,24 @@ pub fn count_at_most(words: &[u64], len: usize, score: u64) -> usize
         return 0;
     }
     let mut n = 0;
-    let mut i = 0;
-    while i < len {
-        n += entries::one_if_at_most(words, i, score);
-        i += 1;
+    for i in 0..len {
+        n += entries::is_within(words, i, score) as usize;
     }
     n
 }
 
 // Whether the words hold a heap of len entries.
+#[tactic(auto, using(crate::proofs::Checking::checking))]
 pub fn is_heap(words: &[u64], len: usize) -> bool
     ensures { Checking words.now len result }
 {
     if !in_limits(len, words.len()) {
         return false;
     }
-    let mut i = 1;
-    while i < len {
+    for i in 1..len {
         if !entries::in_order(words, (i - 1) / 2, i) {
             return false;
         }
-        i += 1;
     }
     true
 }

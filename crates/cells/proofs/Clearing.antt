@@ -1,30 +1,14 @@
--- Words set to 0, from a first one on: a turn of the loop that clears them is a step of `zeroed`, which changes no word
--- before or past them.
+-- Words set to 0, from a first one on: no word before or past them changes.
 use mathlib.Core.Path.{◌≡◌, refl, ap, ◌∙◌}
 use mathlib.Core.List.{List}
 use mathlib.Core.Logic.{◌⊎◌, inl, inr, ⊎_elim}
-use Prim.Native.Nat.{ℕ, zero, suc, ◌+◌, ◌-◌, ◌*◌, ◌/◌, ◌%◌, ◌≤◌, ◌<◌}
+use Prim.Native.Nat.{ℕ, zero, suc, ◌+◌, ◌*◌, ◌/◌, ◌%◌, ◌≤◌, ◌<◌}
 use native.Mathlib.Nat.{zero-div, zero-mod}
 use native.Mathlib.Decide.{ℕ_discrete}
 use native.Mathlib.Omega.{arith}
 use lib.ListN.{length, get_or, set, length-set}
 use lib.Seq.{get_or-set_same, get_or-set_other}
 use Rattle.cells.specs.Cells.{cells_from, cell_words, cell_count, cell_word, weight, cell_at, zeroed}
-
--- j words are cleared, of t from b on
-module _ (ws : List ℕ) (b t : ℕ) where
-  pub zero_start : zeroed ws (b + 0) (t - 0) ≡ zeroed ws b t
-  zero_start = ap (λ (x : ℕ). zeroed ws x (t - 0)) (omega arith) ∙ ap (zeroed ws b) (omega arith)
-
-  pub zero_turn : (j : ℕ) → j < t → zeroed ws (b + j) (t - j) ≡ zeroed (set ws (b + j) 0) (b + (j + 1)) (t - (j + 1))
-  unfolding zeroed
-  zero_turn j h =
-      let e : t - j ≡ suc (t - (j + 1)) = omega arith in
-      ap (zeroed ws (b + j)) e ∙ ap (λ (x : ℕ). zeroed (set ws (b + j) 0) x (t - (j + 1))) (omega arith)
-
-  pub zero_end : (j : ℕ) → t ≤ j → zeroed ws b (t - j) ≡ ws
-  unfolding zeroed
-  zero_end j h = ap (zeroed ws b) (let e : t - j ≡ 0 = omega arith in e)
 
 pub zero_length : (ws : List ℕ) (b f : ℕ) → length (zeroed ws b f) ≡ length ws
 unfolding zeroed

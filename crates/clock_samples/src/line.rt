@@ -1,81 +1,44 @@
-// A line as far as it has been read: its text, the letter that names its question, and its numbers.
+// A line as far as it has been read. Text beside its length: nothing here takes memory from the heap.
+ghost use Rattle.std.specs.Prelude.{◌≤◌};
+ghost use Rattle.clock_samples.specs.declared.line.TheConstants.{KEPT};
 
-#[derive(Clone, Copy)]
+// The longest line that is a question. Of a longer one a byte more is kept, by which it is known.
+const LONGEST: usize = 128;
+
+const KEPT: usize = LONGEST + 1;
+
+#[derive(Drop)]
 pub struct Line {
-    pub text: [u8; 128],
-    pub length: usize,
-    pub letter: u8,
-    pub numbers: [u64; 3],
-    pub count: usize,
-    pub is_malformed: bool,
+    text: [u8; KEPT],
+    length: usize,
+    ghost fits: { length ≤ KEPT },
 }
 
-pub fn empty() -> Line {
-    Line {
-        text: [0; 128],
-        length: 0,
-        letter: 0,
-        numbers: [0; 3],
-        count: 0,
-        is_malformed: false,
+impl Line {
+    pub fn new() -> Line {
+        Line {
+            text: [0; KEPT],
+            length: 0,
+        }
     }
-}
 
-pub fn with_byte(line: Line, byte: u8) -> Line {
-    let at = line.length;
-    if 128 <= at {
-        return malformed(line);
+    pub fn push(&mut self, byte: u8) {
+        if self.length < KEPT {
+            self.text[self.length] = byte;
+            self.length += 1;
+        }
     }
-    let mut next = line;
-    next.text[at] = byte;
-    next.length = at + 1;
-    if at == 0 {
-        next.letter = byte;
-        return next;
-    }
-    if byte == b' ' {
-        next.count = count_after(line.count);
-        return next;
-    }
-    let count = line.count;
-    if count == 0 {
-        return next;
-    }
-    with_digit(next, byte)
-}
 
-fn malformed(line: Line) -> Line {
-    let mut next = line;
-    next.is_malformed = true;
-    next
-}
+    // As much as is written back.
+    pub fn shown(&self) -> &[u8] {
+        &self.text[..self.length.min(LONGEST)]
+    }
 
-fn count_after(count: usize) -> usize {
-    if count < 3 { count + 1 } else { 3 }
-}
-
-// The last number of a line, with one more digit.
-fn with_digit(line: Line, byte: u8) -> Line {
-    let count = line.count;
-    if count == 0 {
-        return malformed(line);
+    // All of it, if it is no longer than a question may be.
+    pub fn whole(&self) -> Option<&[u8]> {
+        if LONGEST < self.length {
+            return None;
+        }
+        Some(&self.text[..self.length])
     }
-    let at = count - 1;
-    if 3 <= at {
-        return malformed(line);
-    }
-    if byte < b'0' {
-        return malformed(line);
-    }
-    if b'9' < byte {
-        return malformed(line);
-    }
-    let digit = (byte - b'0') as u64;
-    let value = line.numbers[at];
-    if value <= (u64::MAX - digit) / 10 {
-        let mut next = line;
-        next.numbers[at] = value * 10 + digit;
-        return next;
-    }
-    malformed(line)
 }

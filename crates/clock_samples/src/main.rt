@@ -14,79 +14,44 @@
 // recorded answers of the Rust, reach the crate.
 #![tactic(auto)]
 
-mod lent;
+mod answer;
 mod line;
-mod print;
+mod question;
 
+use answer::Answer;
 use line::Line;
+use question::Question;
 use std::io;
 use std::io::Read;
 use time::MockClock;
 
-#[derive(Clone, Copy)]
-struct Session {
-    clock: MockClock,
-    line: Line,
-}
-
-fn step(rt: &impl Print, session: Session, byte: u8) -> io::Result<Session> {
-    let line = session.line;
-    let clock = session.clock;
-    if byte == b'\n' {
-        return Ok(Session {
-            clock: print::answer(rt, line, clock)?,
-            line: line::empty(),
-        });
+// Writes the line back with its answer.
+fn answer_line(rt: &impl Print, line: &Line, clock: &mut MockClock) -> io::Result<()> {
+    let shown = line.shown();
+    rt.write_all(shown)?;
+    if shown.starts_with(b"#") {
+        return rt.write_all(b"\n");
     }
-    Ok(Session {
-        clock,
-        line: line::with_byte(line, byte),
-    })
-}
-
-fn run(rt: &impl Print, session: Session, bytes: &[u8]) -> io::Result<Session> {
-    let mut s = session;
-    for byte in bytes {
-        s = step(rt, s, *byte)?;
-    }
-    Ok(s)
-}
-
-#[derive(Clone, Copy)]
-struct Block {
-    session: Session,
-    is_last: bool,
-}
-
-// Answers one block of the input.
-fn read_block(rt: &impl Print, input: &mut impl Read, session: Session) -> io::Result<Block> {
-    let mut bytes = [0u8; 65536];
-    let n = input.read(&mut bytes)?;
-    if n == 0 {
-        return Ok(Block {
-            session,
-            is_last: true,
-        });
-    }
-    Ok(Block {
-        session: run(rt, session, &bytes[..n])?,
-        is_last: false,
-    })
-}
-
-// Every loop has to end, and nothing says that an input does: the blocks are counted up to a number that no run reaches.
-fn main(rt: HostRuntime) -> io::Result<()> {
-    let mut input = rt.reader();
-    let mut session = Session {
-        clock: MockClock::new(),
-        line: line::empty(),
-    };
-    for _ in 0..u64::MAX {
-        let block = read_block(&rt, &mut input, session)?;
-        if block.is_last {
-            break;
+    match line.whole().and_then(Question::of) {
+        Some(question) => {
+            let answer = Answer::to(question, clock);
+            println!(rt; " = {answer}")
         }
-        session = block.session;
+        None => rt.write_all(b" = no question\n"),
+    }
+}
+
+fn main(rt: HostRuntime) -> io::Result<()> {
+    let mut clock = MockClock::new();
+    let mut line = Line::new();
+    for byte in rt.reader().bytes() {
+        match byte? {
+            b'\n' => {
+                answer_line(&rt, &line, &mut clock)?;
+                line = Line::new();
+            }
+            byte => line.push(byte),
+        }
     }
     Ok(())
 }

@@ -1,17 +1,17 @@
 -- Taking one expired deadline after the other: each is held and expired, and when there is no next one all are gone.
 use mathlib.Core.Path.{◌≡◌, refl, sym, ap, ◌∙◌}
-use mathlib.Core.Bool.{Bool, true, false, true≢false, cond, ◌||◌}
+use mathlib.Core.Bool.{Bool, true, false, true≢false, cond, ◌||◌, or-true}
 use mathlib.Core.Logic.{⊎_elim}
 use mathlib.Core.List.{[], ◌∷◌, Memᴰ}
 use mathlib.Core.List.Memᴰ.{cases_cons}
 use mathlib.Core.List.Memᴰ.{head}
 use mathlib.Core.List.Memᴰ.{not-nil}
 use mathlib.Core.List.Memᴰ.{tail}
-use mathlib.Core.Option.{Option, none, some}
 use Prim.Native.Nat.{ℕ, ◌+◌, ◌<◌}
 use native.Mathlib.Omega.{arith}
 use lib.Dec.{eqb, ltb}
 use borrow.Author.Tests.{eq-eqb, ne_eqb, lt-leb, leb-false, ltb-true, ltb-false}
+use Rattle.std.specs.Prelude.{Option, Some, None}
 use Rattle.time.specs.declared.tick.Tick.{Tick}
 use Rattle.time.specs.Deadline.{is_expired_at}
 use Rattle.expiration_index.specs.Model.{Pair, Pairs, has, without, sooner, soonest, next, if_expired, next_expired, without_expired, expired_count, unexpired, Distinct}
@@ -25,7 +25,7 @@ soonest_mem p (q ∷ l) = go (ltb q.deadline.0 p.deadline.0) (soonest_mem p l) (
     go true m n = tail n
     go false m n = ⊎_elim (λ e. head e) (λ i. tail (tail i)) (cases_cons m)
 
-next_mem : (l : Pairs) (p : Pair) → next l ≡ some p → Memᴰ p l
+next_mem : (l : Pairs) (p : Pair) → next l ≡ Some p → Memᴰ p l
 unfolding next
 next_mem [] p e = absurd (let z : ◌≡◌ {A = ℕ} 0 1 = cc in omega arith)
 next_mem (q ∷ l) p e = let same : soonest q l ≡ p = cc in rw (sym same) (soonest_mem q l)
@@ -49,12 +49,12 @@ module _ (t : Tick) where
       go false e o = (o.0, rw (live_later q (omega (arith, ltb-false q.deadline.0 p.deadline.0 e, o.0))) (omega (arith, o.1)))
 
   -- with no expired one next, none is expired
-  pub none_expired : (l : Pairs) → next_expired t l ≡ none → expired_count t l ≡ 0
+  pub none_expired : (l : Pairs) → next_expired t l ≡ None → expired_count t l ≡ 0
   unfolding next_expired next expired_count
   none_expired [] e = refl
   none_expired (p ∷ l) e = go (is_expired_at (soonest p l).deadline t) refl e
     where
-      go : (b : Bool) → is_expired_at (soonest p l).deadline t ≡ b → cond b (some (soonest p l)) none ≡ none → expired_count t (p ∷ l) ≡ 0
+      go : (b : Bool) → is_expired_at (soonest p l).deadline t ≡ b → cond b (Some (soonest p l)) None ≡ None → expired_count t (p ∷ l) ≡ 0
       go true q w = absurd (let z : ◌≡◌ {A = ℕ} 0 1 = cc in omega arith)
       go false q w = let o = soonest_later p l (later_live (soonest p l) q) in rw (live_later p o.0) (omega (arith, o.1))
 
@@ -71,14 +71,10 @@ module _ (t : Tick) where
 mem_has : (l : Pairs) (p : Pair) → Memᴰ p l → has p.key l ≡ true
 unfolding has
 mem_has [] p m = absurd (not-nil m)
-mem_has (x ∷ l) p m = ⊎_elim here (λ i. rw (mem_has l p i) (any (eqb x.key p.key))) (cases_cons m)
+mem_has (x ∷ l) p m = ⊎_elim here (λ i. rw (mem_has l p i) (or-true (eqb x.key p.key))) (cases_cons m)
   where
     here : p ≡ x → has p.key (x ∷ l) ≡ true
     here e = rw (eq-eqb x.key p.key (ap (λ (q : Pair). q.key) (sym e)))
-
-    any : (b : Bool) → (b || true) ≡ true
-    any true = refl
-    any false = refl
 
 pub without_missing : (k : ℕ) (l : Pairs) → has k l ≡ false → without k l ≡ l
 unfolding has without
@@ -111,19 +107,19 @@ taken_out t (x ∷ l) p d m e = ⊎_elim here (λ i. there i (taken_out t l p d.
         let other = ne_eqb x.key p.key (λ k. true≢false (sym (mem_has l p i) ∙ ap (λ (j : ℕ). has j l) (sym k) ∙ d.0)) in
         record { count = rw other (omega (arith, o.count)); rest = rw (other, o.rest) }
 
-module _ (t : Tick) (l : Pairs) (p : Pair) (e : next_expired t l ≡ some p) where
+module _ (t : Tick) (l : Pairs) (p : Pair) (e : next_expired t l ≡ Some p) where
   -- what is taken is held and expired
-  taken_next : (next l ≡ some p) × (is_expired_at p.deadline t ≡ true)
+  taken_next : (next l ≡ Some p) × (is_expired_at p.deadline t ≡ true)
   unfolding next_expired
   taken_next = go (next l) refl e
     where
-      by : (q : Pair) → next l ≡ some q → (b : Bool) → is_expired_at q.deadline t ≡ b → cond b (some q) none ≡ some p → (next l ≡ some p) × (is_expired_at p.deadline t ≡ true)
-      by q n true f w = let s : q ≡ p = cc in (n ∙ ap some s, ap (λ (x : Pair). is_expired_at x.deadline t) (sym s) ∙ f)
+      by : (q : Pair) → next l ≡ Some q → (b : Bool) → is_expired_at q.deadline t ≡ b → cond b (Some q) None ≡ Some p → (next l ≡ Some p) × (is_expired_at p.deadline t ≡ true)
+      by q n true f w = let s : q ≡ p = cc in (n ∙ ap Some s, ap (λ (x : Pair). is_expired_at x.deadline t) (sym s) ∙ f)
       by q n false f w = absurd (let z : ◌≡◌ {A = ℕ} 0 1 = cc in omega arith)
 
-      go : (o : Option Pair) → next l ≡ o → if_expired t o ≡ some p → (next l ≡ some p) × (is_expired_at p.deadline t ≡ true)
-      go none n w = absurd (let z : ◌≡◌ {A = ℕ} 0 1 = cc in omega arith)
-      go (some q) n w = by q n (is_expired_at q.deadline t) refl w
+      go : (o : Option Pair) → next l ≡ o → if_expired t o ≡ Some p → (next l ≡ Some p) × (is_expired_at p.deadline t ≡ true)
+      go None n w = absurd (let z : ◌≡◌ {A = ℕ} 0 1 = cc in omega arith)
+      go (Some q) n w = by q n (is_expired_at q.deadline t) refl w
 
   pub taken_held : has p.key l ≡ true
   taken_held = mem_has l p (next_mem l p taken_next.0)

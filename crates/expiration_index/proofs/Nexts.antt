@@ -8,21 +8,19 @@ use mathlib.Core.List.Memᴰ.{cases_cons}
 use mathlib.Core.List.Memᴰ.{head}
 use mathlib.Core.List.Memᴰ.{not-nil}
 use mathlib.Core.List.Memᴰ.{tail}
-use mathlib.Core.Option.{Option, none, some}
 use Prim.Native.Nat.{ℕ, ◌<◌, ◌≤◌}
 use native.Mathlib.Omega.{arith}
 use lib.Dec.{leb}
 use lib.ListN.{length}
 use borrow.Author.Tests.{lt-ltb, le-ltb}
+use Rattle.std.specs.Prelude.{Option, Some, None}
 use Rattle.time.specs.declared.tick.Tick.{Tick}
 use Rattle.time.specs.Deadline.{is_expired_at}
 use Rattle.binary_heap.specs.declared.entries.Entry.{Entry}
 use Rattle.binary_heap.specs.Order.{le}
-use Rattle.binary_heap.proofs.Laws.{le_same, le_then}
-use Rattle.binary_heap.proofs.Order.{by_score, by_seq}
-use Rattle.rings.proofs.Counts.{by_lt, by_eq}
+use Rattle.binary_heap.proofs.Laws.{le_by_score, le_by_seq, le_same, le_then}
+use Rattle.rings.proofs.Counts.{by_lt}
 use Rattle.linked_hash_map.specs.declared.map.Record.{Record}
-use Rattle.lazy_heap_model.specs.declared.scores.Best.TheVariants as best
 use Rattle.lazy_heap_model.specs.Model.{Heap, entry_of, from_live, peeked, popped, popped_from, best_of_heap}
 use Rattle.lazy_heap.specs.Valid.{Falling, Valid}
 use Rattle.lazy_heap.specs.Calls.{within_best, popped_at_most}
@@ -36,40 +34,29 @@ use Rattle.expiration_index.proofs.Pairs.{without_pairs, deadlines_peeked}
 
 -- ---- a pair more
 abbrev sooner_in : Option Pair → Pair → Pair
-sooner_in none q = q
-sooner_in (some p) q = sooner p q
+sooner_in None q = q
+sooner_in (Some p) q = sooner p q
 
 soonest_append : (p q : Pair) (l : Pairs) → soonest p (l ++ (q ∷ [])) ≡ sooner (soonest p l) q
 soonest_append p q [] = refl
 soonest_append p q (x ∷ l) = soonest_append (sooner p x) q l
 
-next_append : (l : Pairs) (q : Pair) → next (l ++ (q ∷ [])) ≡ some (sooner_in (next l) q)
+next_append : (l : Pairs) (q : Pair) → next (l ++ (q ∷ [])) ≡ Some (sooner_in (next l) q)
 unfolding next
 next_append [] q = refl
-next_append (p ∷ l) q = ap some (soonest_append p q l)
-
--- ---- the order of entries
-module _ (a b : Record) where
-  before_score : a.first < b.first → le (entry_of a) (entry_of b) ≡ true
-  before_score h = sym (by_score (entry_of a) (entry_of b) (λ e. omega arith)) ∙ lt-ltb a.first b.first h
-
-  before_number : a.first ≤ b.first → a.second < b.second → le (entry_of a) (entry_of b) ≡ true
-  before_number h n =
-      by_eq a.first b.first
-      (λ e. sym (by_seq (entry_of a) (entry_of b) e (λ d. omega arith)) ∙ lt-ltb a.second b.second n)
-      (λ d. before_score (omega arith))
+next_append (p ∷ l) q = ap Some (soonest_append p q l)
 
 -- ---- the next due of held keys
 data Next (held : List Record) : Type 0 where
-  nothing : held ≡ [] → next (pairs held) ≡ none → Next held
-  least : (r : Record) → Memᴰ r held → next (pairs held) ≡ some (pair_of r) → ((q : Record) → Memᴰ q held → le (entry_of r) (entry_of q) ≡ true) → Next held
+  nothing : held ≡ [] → next (pairs held) ≡ None → Next held
+  least : (r : Record) → Memᴰ r held → next (pairs held) ≡ Some (pair_of r) → ((q : Record) → Memᴰ q held → le (entry_of r) (entry_of q) ≡ true) → Next held
 
 next_held : (b : ℕ) (held : List Record) → Falling b held → Next held
 unfolding pairs next
 next_held b [] f = nothing refl refl
 next_held b (x ∷ held) f = go (next_held x.second held f.1)
   where
-    more : next (pairs held ++ (pair_of x ∷ [])) ≡ some (sooner_in (next (pairs held)) (pair_of x))
+    more : next (pairs held ++ (pair_of x ∷ [])) ≡ Some (sooner_in (next (pairs held)) (pair_of x))
     more = next_append (pairs held) (pair_of x)
 
     go : Next held → Next (x ∷ held)
@@ -81,18 +68,18 @@ next_held b (x ∷ held) f = go (next_held x.second held f.1)
         sooner_x : x.first < r.first → Next (x ∷ held)
         sooner_x h =
             least x (head refl) (more ∙ rw (n, lt-ltb x.first r.first h))
-            (λ y m. ⊎_elim (λ e. rw e (le_same (entry_of x))) (λ t. le_then (entry_of x) (entry_of r) (entry_of y) (before_score x r h) (l y t)) (cases_cons m))
+            (λ y m. ⊎_elim (λ e. rw e (le_same (entry_of x))) (λ t. le_then (entry_of x) (entry_of r) (entry_of y) (le_by_score (entry_of x) (entry_of r) h) (l y t)) (cases_cons m))
 
         later_x : r.first ≤ x.first → Next (x ∷ held)
         later_x h =
             least r (tail i) (more ∙ rw (n, le-ltb x.first r.first h))
-            (λ y m. ⊎_elim (λ e. rw e (before_number r x h (falling_below x.second held f.1 r i))) (l y) (cases_cons m))
+            (λ y m. ⊎_elim (λ e. rw e (le_by_seq (entry_of r) (entry_of x) h (falling_below x.second held f.1 r i))) (l y) (cases_cons m))
 
 -- ---- the heap's best
 -- the first live entry, if any, is of the next due
 pub data Best (m : Heap) : Type 0 where
-  empty : next (deadlines m) ≡ none → from_live m.held m.entries ≡ [] → Best m
-  first : (r : Record) (es : List Entry) → next (deadlines m) ≡ some (pair_of r) → from_live m.held m.entries ≡ entry_of r ∷ es → Best m
+  empty : next (deadlines m) ≡ None → from_live m.held m.entries ≡ [] → Best m
+  first : (r : Record) (es : List Entry) → next (deadlines m) ≡ Some (pair_of r) → from_live m.held m.entries ≡ entry_of r ∷ es → Best m
 
 pub best_next : (m : Heap) → Valid m → Best m
 unfolding deadlines
@@ -124,12 +111,12 @@ deadlines_popped m v = go (best_next m v)
     go (first r es n q) = rw (n, q) (deadlines_at m r es)
 
 -- where one is taken there was a live entry
-pub best_taken : (t : Tick) (m : Heap) → Valid m → {p : Pair} → next_expired t (deadlines m) ≡ some p → 1 ≤ length (peeked m).entries
+pub best_taken : (t : Tick) (m : Heap) → Valid m → {p : Pair} → next_expired t (deadlines m) ≡ Some p → 1 ≤ length (peeked m).entries
 unfolding next_expired peeked
 best_taken t m v {p} e = go (best_next m v)
   where
     go : Best m → 1 ≤ length (from_live m.held m.entries)
-    go (empty n q) = absurd (let w : none ≡ some p = ap (if_expired t) (sym n) ∙ e in let z : ◌≡◌ {A = ℕ} 0 1 = cc in omega arith)
+    go (empty n q) = absurd (let w : None ≡ Some p = ap (if_expired t) (sym n) ∙ e in let z : ◌≡◌ {A = ℕ} 0 1 = cc in omega arith)
     go (first r es n q) = rw q (omega arith)
 
 -- ---- `pop_at_most` at a tick: the heap's best has at most that score where the next due is expired
@@ -138,7 +125,7 @@ module _ (t : Tick) (m : Heap) (v : Valid m) where
   unfolding expired_due next_expired is_expired_at
   expired_due_lem = go (best_next m v)
     where
-      by : (r : Record) (b : Bool) → due_in (cond b (best.Pair r.key r.first) best.Nothing) ≡ pair_in (cond b (some (pair_of r)) none)
+      by : (r : Record) (b : Bool) → due_in (cond b (Some (r.key, r.first)) None) ≡ pair_in (cond b (Some (pair_of r)) None)
       by r true = refl
       by r false = refl
 
@@ -150,7 +137,7 @@ module _ (t : Tick) (m : Heap) (v : Valid m) where
   unfolding popped_expired next_expired is_expired_at
   expired_heap = go (best_next m v)
     where
-      by : (r : Record) (b : Bool) → cond b (popped m) (peeked m) ≡ taken_if (cond b (some (pair_of r)) none) m
+      by : (r : Record) (b : Bool) → cond b (popped m) (peeked m) ≡ taken_if (cond b (Some (pair_of r)) None) m
       by r true = refl
       by r false = refl
 
@@ -163,9 +150,9 @@ module _ (t : Tick) (m : Heap) (v : Valid m) where
   expired_pairs = go (next (deadlines m)) refl
     where
       go : (o : Option Pair) → next (deadlines m) ≡ o → deadlines (taken_if (if_expired t o) m) ≡ less (if_expired t o) (deadlines m)
-      go none n = deadlines_peeked m
-      go (some p) n = by (is_expired_at p.deadline t)
+      go None n = deadlines_peeked m
+      go (Some p) n = by (is_expired_at p.deadline t)
         where
-          by : (b : Bool) → deadlines (taken_if (cond b (some p) none) m) ≡ less (cond b (some p) none) (deadlines m)
+          by : (b : Bool) → deadlines (taken_if (cond b (Some p) None) m) ≡ less (cond b (Some p) None) (deadlines m)
           by true = deadlines_popped m v ∙ ap (λ (o : Option Pair). less o (deadlines m)) n
           by false = deadlines_peeked m

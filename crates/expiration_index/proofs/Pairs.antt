@@ -1,34 +1,26 @@
 -- The heap's records read as pairs, in the other direction: what the heap does to its records is done to the pairs.
 use mathlib.Core.Path.{◌≡◌, refl, sym, ap, ◌∙◌}
-use mathlib.Core.Bool.{Bool, true, false, true≢false, cond, ◌||◌}
+use mathlib.Core.Bool.{Bool, true, false, true≢false, cond, ◌||◌, or-true, or-false}
 use mathlib.Core.List.{[], ◌∷◌, ◌++◌, append-nil}
-use mathlib.Core.Option.{Option, none, some}
 use Prim.Native.Nat.{ℕ, ◌+◌, ◌-◌, ◌^◌}
 use native.Mathlib.Omega.{arith}
 use lib.Dec.{eqb}
 use lib.ListN.{length, length-append}
 use borrow.Author.Tests.{ne_eqb, eqb-true, eqb-false}
+use Rattle.std.specs.Prelude.{Option, Some, None, option_map, is_some}
 use Rattle.time.specs.declared.tick.Tick.{Tick}
 use Rattle.time.specs.Deadline.{is_expired_at}
-use Rattle.linked_hash_map.specs.declared.map.Taken.{Taken}
-use Rattle.linked_hash_map.specs.declared.map.Taken.TheVariants as taken
+use Rattle.linked_hash_map.specs.declared.map.Record.{Record}
 use Rattle.linked_hash_map.specs.Model as held
 use Rattle.linked_hash_map.proofs.Laws.{without_none}
 use Rattle.lazy_heap_model.specs.Model.{Heap, count_at_most, at_most, held_score, too_many, rebuilt, numbered, renumbered, before_push, pushed, maybe_rebuilt, updated, removed, peeked, cleared, opened}
 use Rattle.lazy_heap_model.specs.Model as lazy
-use Rattle.expiration_index.specs.declared.answers.Deadline.TheVariants as deadline
-use Rattle.expiration_index.specs.Model.{Pair, Pairs, lookup, has, without, tell, deadline_of, set, is_full, expired_count, Distinct}
+use Rattle.expiration_index.specs.Model.{Pair, Pairs, lookup, has, without, deadline_of, set, is_full, expired_count, Distinct}
 use Rattle.expiration_index.specs.Model as model
-use Rattle.expiration_index.specs.Answers.{tick, deadline_in, held_in}
+use Rattle.expiration_index.specs.Answers.{tick, deadline_in}
 use Rattle.expiration_index.specs.Index.{pair_of, pairs, deadlines}
 
 -- ---- lists of pairs, one behind the other
-or_swap : (a b : Bool) → (a || b) ≡ (b || a)
-or_swap true true = refl
-or_swap true false = refl
-or_swap false true = refl
-or_swap false false = refl
-
 module _ (k : ℕ) where
   pub has_append : (l m : Pairs) → has k (l ++ m) ≡ (has k l || has k m)
   unfolding has
@@ -53,14 +45,14 @@ module _ (k : ℕ) where
   lookup_past [] m h = refl
   lookup_past (p ∷ l) m h = go (eqb p.key k) h (lookup_past l m)
     where
-      go : (b : Bool) → (b || has k l) ≡ false → (has k l ≡ false → lookup k (l ++ m) ≡ lookup k m) → cond b (some p) (lookup k (l ++ m)) ≡ lookup k m
+      go : (b : Bool) → (b || has k l) ≡ false → (has k l ≡ false → lookup k (l ++ m) ≡ lookup k m) → cond b (Some p) (lookup k (l ++ m)) ≡ lookup k m
       go true q ih = absurd (true≢false q)
       go false q ih = ih q
 
-  lookup_before : (l m : Pairs) → lookup k m ≡ none → lookup k (l ++ m) ≡ lookup k l
+  lookup_before : (l m : Pairs) → lookup k m ≡ None → lookup k (l ++ m) ≡ lookup k l
   unfolding lookup
   lookup_before [] m h = h
-  lookup_before (p ∷ l) m h = ap (λ (o : Option Pair). cond (eqb p.key k) (some p) o) (lookup_before l m h)
+  lookup_before (p ∷ l) m h = ap (λ (o : Option Pair). cond (eqb p.key k) (Some p) o) (lookup_before l m h)
 
 pub distinct_append : (l : Pairs) (p : Pair) → Distinct l → has p.key l ≡ false → Distinct (l ++ (p ∷ []))
 unfolding has
@@ -83,8 +75,8 @@ has_pairs k [] = refl
 has_pairs k (r ∷ l) = has_append k (pairs l) (pair_of r ∷ []) ∙ go (eqb r.key k) (has_pairs k l)
   where
     go : (b : Bool) → has k (pairs l) ≡ held.has k l → (has k (pairs l) || (b || false)) ≡ (b || held.has k l)
-    go true ih = or_swap (has k (pairs l)) true
-    go false ih = or_swap (has k (pairs l)) false ∙ ih
+    go true ih = or-true (has k (pairs l))
+    go false ih = or-false (has k (pairs l)) ∙ ih
 
 pub without_pairs : (k : ℕ) (l : held.Model) → pairs (held.without k l) ≡ without k (pairs l)
 unfolding pairs held.without without
@@ -106,18 +98,12 @@ numbered_pairs [] = refl
 numbered_pairs (r ∷ l) = ap (λ (x : Pairs). x ++ (pair_of r ∷ [])) (numbered_pairs l)
 
 -- ---- what a key holds
--- a record that was found, as a pair
-abbrev taking : Taken → Option Pair
-taking (taken.Record r) = some (pair_of r)
-taking taken.Nothing = none
-taking taken.Refused = none
-
-lookup_pairs : (k : ℕ) (l : held.Model) → held.Distinct l → lookup k (pairs l) ≡ taking (held.lookup k l)
+lookup_pairs : (k : ℕ) (l : held.Model) → held.Distinct l → lookup k (pairs l) ≡ option_map pair_of (held.lookup k l)
 unfolding pairs held.lookup lookup
 lookup_pairs k [] d = refl
 lookup_pairs k (r ∷ l) d = go (eqb r.key k) refl (lookup_pairs k l d.1)
   where
-    go : (b : Bool) → eqb r.key k ≡ b → lookup k (pairs l) ≡ taking (held.lookup k l) → lookup k (pairs l ++ (pair_of r ∷ [])) ≡ taking (cond b (taken.Record r) (held.lookup k l))
+    go : (b : Bool) → eqb r.key k ≡ b → lookup k (pairs l) ≡ option_map pair_of (held.lookup k l) → lookup k (pairs l ++ (pair_of r ∷ [])) ≡ option_map pair_of (cond b (Some r) (held.lookup k l))
     go true e ih = lookup_past k (pairs l) (pair_of r ∷ []) (has_pairs k l ∙ ap (λ (j : ℕ). held.has j l) (sym (eqb-true r.key k e)) ∙ d.0) ∙ rw e
     go false e ih = lookup_before k (pairs l) (pair_of r ∷ []) (rw e) ∙ ih
 
@@ -125,22 +111,21 @@ pub deadline_pairs : (k : ℕ) (l : held.Model) → held.Distinct l → deadline
 unfolding deadline_of
 deadline_pairs k l d = rw (lookup_pairs k l d) (go (held.lookup k l))
   where
-    go : (t : Taken) → deadline_in (held_score t) ≡ model.deadline_in (taking t)
-    go (taken.Record r) = refl
-    go taken.Nothing = refl
-    go taken.Refused = refl
+    go : (o : Option Record) → deadline_in (held_score o) ≡ model.deadline_in (option_map pair_of o)
+    go (Some r) = refl
+    go None = refl
 
-has_lookup : (k : ℕ) (l : held.Model) → held_in (held_score (held.lookup k l)) ≡ tell (held.has k l)
+has_lookup : (k : ℕ) (l : held.Model) → is_some (held_score (held.lookup k l)) ≡ held.has k l
 unfolding held.lookup held.has
 has_lookup k [] = refl
 has_lookup k (r ∷ l) = go (eqb r.key k) (has_lookup k l)
   where
-    go : (b : Bool) → held_in (held_score (held.lookup k l)) ≡ tell (held.has k l) → held_in (held_score (cond b (taken.Record r) (held.lookup k l))) ≡ tell (b || held.has k l)
+    go : (b : Bool) → is_some (held_score (held.lookup k l)) ≡ held.has k l → is_some (held_score (cond b (Some r) (held.lookup k l))) ≡ (b || held.has k l)
     go true ih = refl
     go false ih = ih
 
-pub held_pairs : (k : ℕ) (l : held.Model) → held_in (held_score (held.lookup k l)) ≡ tell (has k (pairs l))
-held_pairs k l = has_lookup k l ∙ sym (ap tell (has_pairs k l))
+pub held_pairs : (k : ℕ) (l : held.Model) → is_some (held_score (held.lookup k l)) ≡ has k (pairs l)
+held_pairs k l = has_lookup k l ∙ sym (has_pairs k l)
 
 -- ---- how many are expired
 module _ (t : Tick) where
@@ -176,16 +161,16 @@ unfolding deadlines removed
 deadlines_removed k m = without_pairs k m.held
 
 -- a key that holds none is removed for nothing
-none_held : (k : ℕ) (l : Pairs) → deadline_of k l ≡ deadline.Nothing → has k l ≡ false
+none_held : (k : ℕ) (l : Pairs) → deadline_of k l ≡ None → has k l ≡ false
 unfolding deadline_of lookup has
 none_held k [] e = refl
 none_held k (p ∷ l) e = go (eqb p.key k) e (none_held k l)
   where
-    go : (b : Bool) → model.deadline_in (cond b (some p) (lookup k l)) ≡ deadline.Nothing → (model.deadline_in (lookup k l) ≡ deadline.Nothing → has k l ≡ false) → (b || has k l) ≡ false
+    go : (b : Bool) → model.deadline_in (cond b (Some p) (lookup k l)) ≡ None → (model.deadline_in (lookup k l) ≡ None → has k l ≡ false) → (b || has k l) ≡ false
     go true q ih = absurd (let z : ◌≡◌ {A = ℕ} 0 1 = cc in omega arith)
     go false q ih = ih q
 
-pub removed_none : (k : ℕ) (m : Heap) → deadline_of k (deadlines m) ≡ deadline.Nothing → removed k m ≡ m
+pub removed_none : (k : ℕ) (m : Heap) → deadline_of k (deadlines m) ≡ None → removed k m ≡ m
 unfolding removed deadlines
 removed_none k m e = ap (λ (l : held.Model). record { limit = m.limit; factor = m.factor; next = m.next; held = l; entries = m.entries }) (without_none k m.held (sym (has_pairs k m.held) ∙ none_held k (pairs m.held) e))
 

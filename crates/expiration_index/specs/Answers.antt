@@ -1,69 +1,23 @@
--- The heap's answers read as the index's, and whether an answer refuses.
-use Rattle.std.specs.Prelude.{ℕ}
+-- The heap's answers read as the index's.
+use Rattle.std.specs.Prelude.{ℕ, Option, option_map, Result, Ok, Err}
 use Rattle.time.specs.declared.tick.Tick.{Tick}
-use Rattle.time.specs.declared.refusal.Outcome.{Outcome}
-use Rattle.time.specs.declared.refusal.Outcome.TheVariants.{Done, Refused}
-use Rattle.lazy_heap_model.specs.declared.scores.Score.{Score}
-use Rattle.lazy_heap_model.specs.declared.scores.Score.TheVariants as score
-use Rattle.lazy_heap_model.specs.declared.scores.Best.{Best}
-use Rattle.lazy_heap_model.specs.declared.scores.Best.TheVariants as best
-use Rattle.lazy_heap.specs.declared.heap.Number.{Number}
-use Rattle.lazy_heap.specs.declared.heap.Number.TheVariants as number
-use Rattle.lazy_heap.specs.declared.heap.Flag.{Flag}
-use Rattle.lazy_heap.specs.declared.heap.Flag.TheVariants as flag
-use Rattle.expiration_index.specs.declared.answers.Deadline.{Deadline}
-use Rattle.expiration_index.specs.declared.answers.Deadline.TheVariants as deadline
-use Rattle.expiration_index.specs.declared.answers.Due.{Due}
-use Rattle.expiration_index.specs.declared.answers.Due.TheVariants as due
-use Rattle.expiration_index.specs.declared.answers.Count.{Count}
-use Rattle.expiration_index.specs.declared.answers.Count.TheVariants as count
-use Rattle.expiration_index.specs.declared.answers.Told.{Told}
-use Rattle.expiration_index.specs.declared.answers.Told.TheVariants as told
+use Rattle.time.specs.declared.refusal.Refusal.{Refusal}
+use Rattle.lazy_heap_model.specs.declared.counted.Counted.{Counted}
+use Rattle.lazy_heap.specs.Calls.{counted}
 
 -- a score read as a deadline
 abbrev pub tick : ℕ → Tick
 tick n = record { 0 = n }
 
-abbrev pub deadline_in : Score → Deadline
-deadline_in (score.Value s) = deadline.At (tick s)
-deadline_in score.Nothing = deadline.Nothing
-deadline_in (score.Refused why) = deadline.Refused why
+-- of a key, if it holds one
+abbrev pub deadline_in : Option ℕ → Option Tick
+deadline_in score = option_map tick score
 
-abbrev pub held_in : Score → Told
-held_in (score.Value s) = told.Yes
-held_in score.Nothing = told.No
-held_in (score.Refused why) = told.Refused why
+-- and of the best, beside its key
+abbrev pub due_in : Option (ℕ × ℕ) → Option (ℕ × Tick)
+due_in best = option_map (λ b. (b.0, tick b.1)) best
 
-abbrev pub due_in : Best → Due
-due_in (best.Pair k s) = due.Pair k (tick s)
-due_in best.Nothing = due.Nothing
-due_in (best.Refused why) = due.Refused why
-
-abbrev pub count_in : Number → Count
-count_in (number.Value n) = count.Number n
-count_in (number.Refused why) = count.Refused why
-
-abbrev pub told_in : Flag → Told
-told_in flag.Yes = told.Yes
-told_in flag.No = told.No
-told_in (flag.Refused why) = told.Refused why
-
--- ---- why an answer refuses
-abbrev pub of_deadline : Deadline → Outcome
-of_deadline (deadline.At t) = Done
-of_deadline deadline.Nothing = Done
-of_deadline (deadline.Refused why) = Refused why
-
-abbrev pub of_due : Due → Outcome
-of_due (due.Pair k t) = Done
-of_due due.Nothing = Done
-of_due (due.Refused why) = Refused why
-
-abbrev pub of_count : Count → Outcome
-of_count (count.Number n) = Done
-of_count (count.Refused why) = Refused why
-
-abbrev pub of_told : Told → Outcome
-of_told told.Yes = Done
-of_told told.No = Done
-of_told (told.Refused why) = Refused why
+-- an answer beside the number of entries that its call discarded
+abbrev pub beside : {A : Type 0} → ℕ → Result A Refusal → Result (Counted A) Refusal
+beside d (Ok a) = Ok (counted a d)
+beside d (Err why) = Err why

@@ -1,16 +1,10 @@
 -- The model: document 01, "The plain book", its list of (key, deadline), latest set last. It knows nothing of words, entries
 -- or sequence numbers.
-use Rattle.std.specs.Prelude.{◌≡◌, Bool, true, false, cond, not, ◌&&◌, ◌||◌, List, [], ◌∷◌, ◌++◌, ℕ, ◌+◌, eqb, ltb, leb, length}
-use Rattle.std.proofs.Math.Option.{Option, none, some}
+use Rattle.std.specs.Prelude.{◌≡◌, Bool, false, cond, not, ◌&&◌, ◌||◌, List, [], ◌∷◌, ◌++◌, ℕ, ◌+◌, eqb, ltb, leb, length, Option, Some, None, Result, Ok, Err}
 use Rattle.time.specs.declared.tick.Tick.{Tick}
+use Rattle.time.specs.declared.refusal.Refusal.{Refusal}
 use Rattle.time.specs.declared.refusal.Refusal.TheVariants.{KeyLimitReached}
 use Rattle.time.specs.Deadline.{is_expired_at}
-use Rattle.expiration_index.specs.declared.answers.Deadline.{Deadline}
-use Rattle.expiration_index.specs.declared.answers.Deadline.TheVariants as deadline
-use Rattle.expiration_index.specs.declared.answers.Due.{Due}
-use Rattle.expiration_index.specs.declared.answers.Due.TheVariants as due
-use Rattle.expiration_index.specs.declared.answers.Told.{Told}
-use Rattle.expiration_index.specs.declared.answers.Told.TheVariants as told
 
 pub record Pair : Type 0 where
   pub key : ℕ
@@ -22,8 +16,8 @@ Pairs = List Pair
 -- ---- parts of a list
 -- the pair of a key
 unfoldable pub lookup : ℕ → Pairs → Option Pair
-lookup k [] = none
-lookup k (p ∷ l) = cond (eqb p.key k) (some p) (lookup k l)
+lookup k [] = None
+lookup k (p ∷ l) = cond (eqb p.key k) (Some p) (lookup k l)
 
 -- whether a key holds a deadline
 unfoldable pub has : ℕ → Pairs → Bool
@@ -36,21 +30,18 @@ without k [] = []
 without k (p ∷ l) = cond (eqb p.key k) (without k l) (p ∷ without k l)
 
 -- ---- answers
-abbrev pub deadline_in : Option Pair → Deadline
-deadline_in none = deadline.Nothing
-deadline_in (some p) = deadline.At p.deadline
+abbrev pub deadline_in : Option Pair → Option Tick
+deadline_in None = None
+deadline_in (Some p) = Some p.deadline
 
-abbrev pub pair_in : Option Pair → Due
-pair_in none = due.Nothing
-pair_in (some p) = due.Pair p.key p.deadline
-
-abbrev pub tell : Bool → Told
-tell true = told.Yes
-tell false = told.No
+-- its key and its deadline
+abbrev pub pair_in : Option Pair → Option (ℕ × Tick)
+pair_in None = None
+pair_in (Some p) = Some (p.key, p.deadline)
 
 -- ---- calls
 -- `deadline_of`; `set_deadline` and `remove` answer the same
-unfoldable pub deadline_of : ℕ → Pairs → Deadline
+unfoldable pub deadline_of : ℕ → Pairs → Option Tick
 deadline_of k l = deadline_in (lookup k l)
 
 -- "Setting a deadline appends the new pair; the key's old pair, if any, goes"
@@ -61,8 +52,8 @@ set k t l = without k l ++ (record { key = k; deadline = t } ∷ [])
 unfoldable pub is_full : ℕ → ℕ → Pairs → Bool
 is_full d k l = not (has k l) && leb d (length l)
 
-abbrev pub set_answer : ℕ → ℕ → Pairs → Deadline
-set_answer d k l = cond (is_full d k l) (deadline.Refused KeyLimitReached) (deadline_of k l)
+abbrev pub set_answer : ℕ → ℕ → Pairs → Result (Option Tick) Refusal
+set_answer d k l = cond (is_full d k l) (Err KeyLimitReached) (Ok (deadline_of k l))
 
 -- "Next due: least deadline, then earliest set". Of two pairs, p set before q: q only if it is due before p.
 abbrev pub sooner : Pair → Pair → Pair
@@ -73,28 +64,28 @@ soonest p [] = p
 soonest p (q ∷ l) = soonest (sooner p q) l
 
 unfoldable pub next : Pairs → Option Pair
-next [] = none
-next (p ∷ l) = some (soonest p l)
+next [] = None
+next (p ∷ l) = Some (soonest p l)
 
 -- `next_deadline`
-unfoldable pub next_due : Pairs → Due
+unfoldable pub next_due : Pairs → Option (ℕ × Tick)
 next_due l = pair_in (next l)
 
 -- `pop_expired`: the next due, if it is expired
 abbrev pub if_expired : Tick → Option Pair → Option Pair
-if_expired t none = none
-if_expired t (some p) = cond (is_expired_at p.deadline t) (some p) none
+if_expired t None = None
+if_expired t (Some p) = cond (is_expired_at p.deadline t) (Some p) None
 
 unfoldable pub next_expired : Tick → Pairs → Option Pair
 next_expired t l = if_expired t (next l)
 
-unfoldable pub expired_due : Tick → Pairs → Due
+unfoldable pub expired_due : Tick → Pairs → Option (ℕ × Tick)
 expired_due t l = pair_in (next_expired t l)
 
 -- and the list with that pair gone
 abbrev pub less : Option Pair → Pairs → Pairs
-less none l = l
-less (some p) l = without p.key l
+less None l = l
+less (Some p) l = without p.key l
 
 unfoldable pub without_expired : Tick → Pairs → Pairs
 without_expired t l = less (next_expired t l) l

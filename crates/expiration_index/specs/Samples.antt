@@ -1,18 +1,13 @@
 -- Worked examples: what samples B2, B4, B5, B7 and B9 to B11 of document 01 come to on the index, which has the deadlines
 -- alone, and calls beside them.
-use Rattle.std.specs.Prelude.{cond, List, [], ◌∷◌, ℕ, eqb, length}
+use Rattle.std.specs.Prelude.{Bool, true, false, cond, List, [], ◌∷◌, ℕ, eqb, length, Option, Some, None, Result, Ok, Err}
 use Rattle.time.specs.declared.tick.Tick.{Tick}
+use Rattle.time.specs.declared.refusal.Refusal.{Refusal}
 use Rattle.time.specs.declared.refusal.Refusal.TheVariants.{KeyLimitReached}
 use Rattle.time.specs.Duration.{millis_of}
 use Rattle.time.specs.Deadline.{deadline_from}
 use Rattle.lazy_heap_model.specs.Model.{Heap, heap_len, surplus, opened, updated, update_discards, removed, peeked, cleared, stale}
-use Rattle.expiration_index.specs.declared.answers.Deadline.{Deadline}
-use Rattle.expiration_index.specs.declared.answers.Deadline.TheVariants as deadline
-use Rattle.expiration_index.specs.declared.answers.Due.{Due}
-use Rattle.expiration_index.specs.declared.answers.Due.TheVariants as due
-use Rattle.expiration_index.specs.declared.answers.Told.{Told}
-use Rattle.expiration_index.specs.declared.answers.Told.TheVariants as told
-use Rattle.expiration_index.specs.Model.{Pairs, has, without, tell, deadline_of, set, is_full, set_answer, next_due, expired_due, without_expired, expired_count}
+use Rattle.expiration_index.specs.Model.{Pairs, has, without, deadline_of, set, is_full, set_answer, next_due, expired_due, without_expired, expired_count}
 use Rattle.expiration_index.specs.Answers.{tick}
 use Rattle.expiration_index.specs.Index.{factor, deadlines}
 use Rattle.expiration_index.specs.Calls.{popped_expired}
@@ -30,9 +25,9 @@ pub data Call : Type 0 where
   clear : Call
 
 pub data Answer : Type 0 where
-  holds : Deadline → Answer
-  first : Due → Answer
-  says : Told → Answer
+  holds : Result (Option Tick) Refusal → Answer
+  first : Option (ℕ × Tick) → Answer
+  says : Bool → Answer
   number : ℕ → Answer
   done : Answer
 
@@ -52,14 +47,14 @@ pub record Sample : Type 0 where
 -- what the definitions answer on a model for d keys, and the model after it
 abbrev answer : ℕ → Call → Pairs → Answer
 answer d (set_deadline k t) l = holds (set_answer d k l)
-answer d (deadline_for k) l = holds (deadline_of k l)
-answer d (contains k) l = says (tell (has k l))
-answer d (remove k) l = holds (deadline_of k l)
+answer d (deadline_for k) l = holds (Ok (deadline_of k l))
+answer d (contains k) l = says (has k l)
+answer d (remove k) l = holds (Ok (deadline_of k l))
 answer d next_deadline l = first (next_due l)
 answer d (pop_expired t) l = first (expired_due (tick t) l)
 answer d (count_expired t) l = number (expired_count (tick t) l)
 answer d len l = number (length l)
-answer d is_empty l = says (tell (eqb (length l) 0))
+answer d is_empty l = says (eqb (length l) 0)
 answer d clear l = done
 
 abbrev after : ℕ → Call → Pairs → Pairs
@@ -120,26 +115,26 @@ abbrev lasting : ℕ → ℕ → ℕ → ℕ → Call
 lasting k s n t = set_deadline k (deadline_from (tick t) (record { 0 = millis_of (record { secs = s; nanos = n }) }))
 
 abbrev was : ℕ → Answer
-was t = holds (deadline.At (tick t))
+was t = holds (Ok (Some (tick t)))
 
 abbrev new : Answer
-new = holds deadline.Nothing
+new = holds (Ok None)
 
 abbrev full : Answer
-full = holds (deadline.Refused KeyLimitReached)
+full = holds (Err KeyLimitReached)
 
 abbrev pair : ℕ → ℕ → Answer
-pair k t = first (due.Pair k (tick t))
+pair k t = first (Some (k, tick t))
 
 abbrev none : Answer
-none = first due.Nothing
+none = first None
 
 abbrev pub samples : List Sample
 samples =
     -- B2: live at 2999, expired at 3000, and missing after it was taken
     sample 4 0
     (lasting 7 2 0 1000 ∷ deadline_for 7 ∷ count_expired 2999 ∷ pop_expired 2999 ∷ count_expired 3000 ∷ pop_expired 3000 ∷ deadline_for 7 ∷ is_empty ∷ [])
-    (a new 0 1 ∷ a (was 3000) 0 1 ∷ a (number 0) 0 1 ∷ a none 0 1 ∷ a (number 1) 0 1 ∷ a (pair 7 3000) 0 0 ∷ a new 0 0 ∷ a (says told.Yes) 0 0 ∷ [])
+    (a new 0 1 ∷ a (was 3000) 0 1 ∷ a (number 0) 0 1 ∷ a none 0 1 ∷ a (number 1) 0 1 ∷ a (pair 7 3000) 0 0 ∷ a new 0 0 ∷ a (says true) 0 0 ∷ [])
     -- B4: the old entry of 7 is discarded on the way to 8
     ∷ sample 4 0
     (to 7 3000 ∷ to 8 3000 ∷ to 7 3000 ∷ next_deadline ∷ [])
@@ -155,7 +150,7 @@ samples =
     -- B9: a deadline is held whether or not a value is
     ∷ sample 4 0
     (lasting 7 0 5000000 0 ∷ next_deadline ∷ contains 7 ∷ [])
-    (a new 0 1 ∷ a (pair 7 5) 0 1 ∷ a (says told.Yes) 0 1 ∷ [])
+    (a new 0 1 ∷ a (pair 7 5) 0 1 ∷ a (says true) 0 1 ∷ [])
     -- B10: the longest lifetimes end one tick before the last
     ∷ sample 4 0
     (lasting 7 18446744073709551 615000000 0 ∷ next_deadline ∷ lasting 7 18446744073709551 616000000 0 ∷ pop_expired 18446744073709551613 ∷ next_deadline ∷ [])
@@ -163,7 +158,7 @@ samples =
     -- B11: a key beyond the limit is refused, and taken after another was removed
     ∷ sample 1 0
     (to 7 5 ∷ to 8 5 ∷ to 7 6 ∷ remove 7 ∷ to 8 9 ∷ deadline_for 8 ∷ contains 7 ∷ pop_expired 9 ∷ [])
-    (a new 0 1 ∷ a full 0 1 ∷ a (was 5) 0 2 ∷ a (was 6) 0 2 ∷ a new 2 1 ∷ a (was 9) 0 1 ∷ a (says told.No) 0 1 ∷ a (pair 8 9) 0 0 ∷ [])
+    (a new 0 1 ∷ a full 0 1 ∷ a (was 5) 0 2 ∷ a (was 6) 0 2 ∷ a new 2 1 ∷ a (was 9) 0 1 ∷ a (says false) 0 1 ∷ a (pair 8 9) 0 0 ∷ [])
     -- a removal leaves its entry until it comes to the top, and `clear` counts those that no key holds
     ∷ sample 4 0
     (to 7 5 ∷ to 8 6 ∷ to 9 7 ∷ remove 7 ∷ pop_expired 5 ∷ count_expired 6 ∷ remove 9 ∷ len ∷ clear ∷ next_deadline ∷ len ∷ [])

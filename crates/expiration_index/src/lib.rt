@@ -13,8 +13,6 @@
 // handed to any call. A refusal changes nothing; on words and numbers that are no index, only they may change.
 #![tactic(auto)]
 
-mod answers;
 mod index;
 
-pub use answers::{Changed, Cleared, Count, Deadline, Due, Looked, Opened, Told};
 pub use index::ExpirationIndex;

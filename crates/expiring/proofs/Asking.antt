@@ -62,10 +62,10 @@ module _ {ws : List ℕ} {b : Expiring} {k : ℕ} {d : Option Tick} (t : Tick) (
 -- ---- values
 module _ {ws : List ℕ} {b : Expiring} where
   pub stored_told : {k : ℕ} {r : Result Bool Refusal} → lru.Containing ws b.inner k r → Stored ws b k (result_unwrap_or r false)
-  stored_told a = record { answer = λ o. said_asking a o }
+  stored_told a = record { answer = λ o. said_asking a false o }
 
   pub stored_counted : {r : Result ℕ Refusal} → lru.Length ws b.inner r → StoredCount ws b (result_unwrap_or r 0)
-  stored_counted a = record { answer = λ o. said_asking a o }
+  stored_counted a = record { answer = λ o. said_asking a 0 o }
 
 -- a refused count
 pub counted_none : {ws : List ℕ} {b : Expiring} {n : ℕ} {why : Refusal} → book_limits (capacity_of b) (limit_of b) (length ws) ≡ Err why → Counting ws b n (Err why)

@@ -62,7 +62,7 @@ module _ {ns ws ws' : List ℕ} (h : 12 ≤ length ns) {k : ℕ} {f : Items → 
   valuing o = record {
     stay = stay_lru ns l;
     moved = subst (λ b. Moved ws (book_in ns) keep f ws' b 0) (sym (lru_stored ns l h o.capacity)) (moved_values {b = book_in ns} o);
-    value = said_changing {b = book_in ns} o;
+    value = said_changing {b = book_in ns} o None;
   }
 
 -- ---- the expirations
@@ -80,8 +80,8 @@ module _ (ns : List ℕ) {ns₁ ns₂ ns₃ ws ws₁ ws₂ : List ℕ} {ch : Cha
       subst (λ r. Acting ws (book_in ns) ch (f (stored_of ws (book_in ns))) (cond (expired_in ws (book_in ns) t k) 1 0) (unless (expired_in ws (book_in ns) t k) (value_of ws (book_in ns) k)) ws₂ r) (sym (done.reply d))
       (conclude t x (moved_later move p.moved) free held (λ is. ap of_found (p.value (move.book is) ∙ ap (list.value_of k) (move.stored is)) ∙ value_of_lem k (stored_of ws (book_in ns))) word)
 
-  pub put_after : {v : ℕ} → Putting ns₁ ws₁ k v ns₂ ws₂ x → Inserting ws (book_in ns) t k v ch ws₂ (reply_in ns₃ (record { answer = a; discarded = d }))
-  put_after {v} p =
+  pub put_after : (v : ℕ) → Putting ns₁ ws₁ k v ns₂ ws₂ x → Inserting ws (book_in ns) t k v ch ws₂ (reply_in ns₃ (record { answer = a; discarded = d }))
+  put_after v p =
       subst (λ c. Acting ws (book_in ns) ch (inserted c (record { key = k; value = v }) (stored_of ws (book_in ns))) (cond (expired_in ws (book_in ns) t k) 1 0) (unless (expired_in ws (book_in ns) t k) (value_of ws (book_in ns) k)) ws₂ (reply_in ns₃ (record { answer = a; discarded = d }))) move.capacity
       (concludes p)
 
@@ -90,7 +90,7 @@ pub admitted_ready : (ns : List ℕ) {size : ℕ} → admitted ns size ≡ Ok tt
 unfolding admitted
 admitted_ready ns {size} e =
     by_lt (length ns) 12 (λ few. absurd (err_ok TooFewWords (sym (rw (lt-ltb (length ns) 12 few)) ∙ e)))
-    (λ h. record { numbers = h; room = limits_room (capacity_of (book_in ns)) (limit_of (book_in ns)) size (sym (rw (le-ltb 12 (length ns) h)) ∙ e) })
+    (λ h. record { numbers = h; room = limits_room (capacity_of (book_in ns)) (limit_of (book_in ns)) size (sym (rw (le-ltb (length ns) 12 h)) ∙ e) })
 
 module _ {ns ws : List ℕ} {t : Tick} {c : Call} where
   pub changing : {ns' ws' : List ℕ} {r : Counted Answer} → 12 ≤ length ns → Stay ns ns' → Following ws (book_in ns) t c ws' (reply_in ns' r) → Changing ns ws t c ns' ws' r
@@ -102,7 +102,7 @@ module _ {ns ws : List ℕ} {t : Tick} {c : Call} where
   turned_back {why} e =
       by_lt (length ns) 12
       (λ few. record { refused = λ _. (ap (λ (w : Refusal). saying (answers.Refused w)) (same_err (sym e ∙ rw (lt-ltb (length ns) 12 few))), refl, refl); call = λ h. absurd (omega arith); stay = stay_same ns })
-      (λ h. changing h (stay_same ns) (follow_limits ws (book_in ns) t c (sym (rw (le-ltb 12 (length ns) h)) ∙ e)))
+      (λ h. changing h (stay_same ns) (follow_limits ws (book_in ns) t c (sym (rw (le-ltb (length ns) 12 h)) ∙ e)))
 
 -- a book that was read is the one that the numbers tell
 pub default_in_lem : (ns : List ℕ) {b : Expiring} → b ≡ book_in ns → {l : Option TtlTicks} → b.default_ttl ≡ l → (book_in ns).default_ttl ≡ l

@@ -117,7 +117,7 @@ module _ (ws : List ℕ) (b : Expiring) (t : Tick) (limits : book_limits (capaci
   pub follow_peeked : {k : ℕ} {e : Bool} {r : Result (Option ℕ) Refusal} {u : Answer} → Expired ws b t k e → e ≡ false → lru.Peeking ws b.inner k r → u ≡ of_found (result_unwrap_or r None) → Following ws b t (peek k) ws (replying b u)
   unfolding change_of stored_after expired_by answered bad_nanos model_of is_expired value_unless_expired
   follow_peeked {k} {e} {r} x y a u =
-      rw u (follow_same (peek k) refl (λ m n. refl) (λ m n. refl) (λ m n. refl) (found_accepted (result_unwrap_or r None)) (λ o m n. rw (sym (x.answer o), y) (sym (ap of_found (said_asking a o) ∙ value_of_lem k (stored_of ws b)))))
+      rw u (follow_same (peek k) refl (λ m n. refl) (λ m n. refl) (λ m n. refl) (found_accepted (result_unwrap_or r None)) (λ o m n. rw (sym (x.answer o), y) (sym (ap of_found (said_asking a None o) ∙ value_of_lem k (stored_of ws b)))))
 
   -- ---- `get`
   pub follow_get_expired : {k : ℕ} {e : Bool} {ws' : List ℕ} {b' : Expiring} → Expired ws b t k e → e ≡ true → Moved ws b (drop k) (list.without k) ws' b' 0 → Following ws b t (get k) ws' (replying (with_expired b' 1) answers.Nothing)
@@ -192,21 +192,21 @@ module _ (ws : List ℕ) (b : Expiring) (t : Tick) (limits : book_limits (capaci
   unfolding change_of stored_after expired_by answered bad_nanos model_of
   follow_touch {k} {r = r} a u =
       rw u (follow ws b t (touch k) limits refl (acting (moved_values {b = b} a) (λ o. refl) word (tell_accepted (result_unwrap_or r false)) (λ o. refl) (λ o. refl) (λ o. refl))
-      (λ o m n. refl) (λ o m n. refl) (λ o m n. refl) (λ o m n. sym (ap tell (said_changing {b = b} a o))))
+      (λ o m n. refl) (λ o m n. refl) (λ o m n. refl) (λ o m n. sym (ap tell (said_changing {b = b} a false o))))
 
   pub follow_rank : {k : ℕ} {r : Result (Option ℕ) Refusal} {u : Answer} → lru.Ranking ws b.inner k r → u ≡ rank_in (result_unwrap_or r None) → Following ws b t (recency_rank k) ws (replying b u)
   unfolding change_of stored_after expired_by answered bad_nanos model_of
-  follow_rank {k} {r} a u = rw u (follow_same (recency_rank k) refl (λ m n. refl) (λ m n. refl) (λ m n. refl) (rank_accepted (result_unwrap_or r None)) (λ o m n. sym (ap rank_in (said_asking {b = b} a o))))
+  follow_rank {k} {r} a u = rw u (follow_same (recency_rank k) refl (λ m n. refl) (λ m n. refl) (λ m n. refl) (rank_accepted (result_unwrap_or r None)) (λ o m n. sym (ap rank_in (said_asking {b = b} a None o))))
 
   pub follow_pop : {ws' : List ℕ} {l : FastLru} {r : Result (Option (ℕ × ℕ)) Refusal} {u : Answer} → lru.Popping ws b.inner ws' l r → u ≡ of_oldest (result_unwrap_or r None) → Following ws b t pop_lru ws' (replying (with_list b l) u)
   unfolding change_of stored_after expired_by answered bad_nanos model_of oldest_of
   follow_pop {r = r} a u =
       rw u (follow ws b t pop_lru limits refl (acting (moved_values {b = b} a) (λ o. refl) word (oldest_accepted (result_unwrap_or r None)) (λ o. refl) (λ o. refl) (λ o. refl))
-      (λ o m n. refl) (λ o m n. refl) (λ o m n. refl) (λ o m n. sym (ap of_oldest (said_changing {b = b} a o) ∙ oldest_in (last (stored_of ws b)))))
+      (λ o m n. refl) (λ o m n. refl) (λ o m n. refl) (λ o m n. sym (ap of_oldest (said_changing {b = b} a None o) ∙ oldest_in (last (stored_of ws b)))))
 
   pub follow_oldest : {r : Result (Option (ℕ × ℕ)) Refusal} {u : Answer} → lru.PeekingOldest ws b.inner r → u ≡ of_oldest (result_unwrap_or r None) → Following ws b t peek_lru ws (replying b u)
   unfolding change_of stored_after expired_by answered bad_nanos model_of oldest_of
-  follow_oldest {r} a u = rw u (follow_same peek_lru refl (λ m n. refl) (λ m n. refl) (λ m n. refl) (oldest_accepted (result_unwrap_or r None)) (λ o m n. sym (ap of_oldest (said_asking {b = b} a o) ∙ oldest_in (last (stored_of ws b)))))
+  follow_oldest {r} a u = rw u (follow_same peek_lru refl (λ m n. refl) (λ m n. refl) (λ m n. refl) (oldest_accepted (result_unwrap_or r None)) (λ o m n. sym (ap of_oldest (said_asking {b = b} a None o) ∙ oldest_in (last (stored_of ws b)))))
 
   -- ---- `set_ttl`
   module _ (k : ℕ) (d : Duration) (i : is_duration d ≡ true) {s : Bool} (held : Stored ws b k s) where

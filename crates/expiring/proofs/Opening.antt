@@ -7,7 +7,7 @@ use lib.ListN.{length}
 use lib.ListN as words
 use borrow.Author.Tests.{le-ltb}
 use borrow.Rule.Slice.PartMut.{mid_of, put_mid}
-use Rattle.std.specs.Prelude.{Option, Some, None, Result, Ok, Err, ⊤}
+use Rattle.std.specs.Prelude.{Option, Some, None, Result, Ok, Err, IsOk, ⊤}
 use Rattle.std.specs.Option.{option_transpose}
 use Rattle.limits.specs.Limits.{list_limits, heap_limits, book_limits}
 use Rattle.time.specs.declared.duration.Duration.{Duration}
@@ -30,9 +30,10 @@ use Rattle.expiring.specs.declared.expiring.Expiring.{Expiring}
 use Rattle.expiring_model.specs.Model.{fresh, of_ticks, default_of}
 use Rattle.expiring.specs.Book.{start, Room, limit_of, rest, model_of}
 use Rattle.expiring.specs.Calls.{by_duration, opening_of, Opening}
+use Rattle.expiring.specs.Steps.{Opened}
 use Rattle.expiring.proofs.Frames.{rest_back, rest_length, rest_before, rest_kept, kept_then, kept_list, kept_same}
 use Rattle.expiring.proofs.Acting.{same_book}
-use Rattle.expiring.proofs.Limits.{err_ok, same_value}
+use Rattle.expiring.proofs.Limits.{err_ok, same_value, never_refused}
 
 -- ---- the default lifetime, in ticks if it is one
 abbrev pub asked : Option Duration → Result (Option TtlTicks) Refusal
@@ -75,26 +76,38 @@ module _ (ws : List ℕ) (c d s : ℕ) (l : Option Duration) where
   unfolding opening_of
   opening_nanos limits e = opening_refused (rw limits (asked_refused l e))
 
+  pub opening_done : book_limits c d (length ws) ≡ Ok tt → {t : Option TtlTicks} → asked l ≡ Ok t → {ws' : List ℕ} {b : Expiring} → Opened ws c d s t ws' b → Opening ws c d s l ws' (Ok b)
+  unfolding opening_of
+  opening_done limits e {b = b} o = record {
+    outcome = sym (rw limits (asked_done l e).0);
+    refused = λ why q. absurd (err_ok why (sym q));
+    book = λ x q. rw (sym (same_value q)) o.book;
+    model = λ x q. rw (sym (same_value q)) (o.model ∙ ap (fresh c d) (sym (asked_done l e).1));
+    heap = λ x q. rw (sym (same_value q)) o.heap;
+    kept = o.kept;
+  }
+
 -- ---- a list, and an index behind it. Where there is room for both, neither is refused.
 module _ {l c d : ℕ} (r : Room l c d) where
   pub list_open : list_limits c l ≡ Ok tt
   unfolding list_limits
   list_open = rw (le-ltb 4096 c r.capacity, le-ltb l (64 + 8 * c) (omega (arith, r.words)))
 
-module _ {ws ws₁ ys : List ℕ} {c d s : ℕ} {o : Option Duration} {t : Option TtlTicks} (room : Room (length ws) c d) {x : Result FastLru Refusal} (p : lists.Opening ws c ws₁ x) {y : Result ExpirationIndex Refusal} (q : calls.Opening (mid_of (start c) (length ws₁ - start c) ws₁) d s ys y) where
+  pub list_answers : {ws ws' : List ℕ} {x : Result FastLru Refusal} → length ws ≡ l → lists.Opening ws c ws' x → IsOk x
+  list_answers {x = Ok y} n o = refl
+  list_answers {ws} {x = Err why} n o = absurd (err_ok why (sym (o.only why refl) ∙ ap (list_limits c) n ∙ list_open))
+
+module _ {ws ws₁ ys : List ℕ} {c d s : ℕ} (room : Room (length ws) c d) {x : Result FastLru Refusal} (p : lists.Opening ws c ws₁ x) {y : Result ExpirationIndex Refusal} (q : calls.Opening (mid_of (start c) (length ws₁ - start c) ws₁) d s ys y) where
   fits : start c ≤ length ws₁
   fits = omega (arith, p.kept.size, room.words)
-
-  pub list_never : {why : Refusal} → x ≡ Err why → ⊥
-  list_never {why} e = err_ok why (sym (p.only why e) ∙ list_open room)
 
   behind : outcome_of y ≡ Ok tt
   behind = q.outcome ∙ lazy.room_limits (record { some = room.some; limit = room.limit; words = omega (arith, part_length ws₁ (start c) (length ws₁) fits (omega arith), p.kept.size, room.words) })
 
-  pub index_never : {why : Refusal} → y ≡ Err why → ⊥
-  index_never {why} e = err_ok why (sym (ap outcome_of e) ∙ behind)
+  pub index_answers : IsOk y
+  index_answers = never_refused y behind
 
-  module _ {l : FastLru} (e : x ≡ Ok l) {i : ExpirationIndex} (f : y ≡ Ok i) where
+  module _ (t : Option TtlTicks) {l : FastLru} (e : x ≡ Ok l) {i : ExpirationIndex} (f : y ≡ Ok i) where
     new : lists.IsNew c ws₁ l
     new = p.opened l e
 
@@ -119,13 +132,11 @@ module _ {ws ws₁ ys : List ℕ} {c d s : ℕ} {o : Option Duration} {t : Optio
     unfolding heap.opened
     limit = ap (λ (h : Heap). h.limit) (q.heap i f)
 
-    pub opening_done : book_limits c d (length ws) ≡ Ok tt → asked o ≡ Ok t → Opening ws c d s o ws₂ (Ok book)
-    unfolding model_of fresh opening_of
-    opening_done limits told = record {
-      outcome = sym (rw limits (asked_done o told).0);
-      refused = λ why e'. absurd (err_ok why (sym e'));
-      book = λ b is. rw (sym (same_value is)) (record { list = list_then.0; index = rw rest_then (q.index i f) });
-      model = λ b is. rw (sym (same_value is)) (same_book new.capacity limit (sym (asked_done o told).1) list_then.1 (ap (λ (w : List ℕ). index.model_of w i) rest_then ∙ q.model i f) refl);
-      heap = λ b is. rw (sym (same_value is)) (ap (λ (w : List ℕ). index.heap_of w i) rest_then ∙ q.heap i f);
+    pub opened_within : Opened ws c d s t ws₂ book
+    unfolding model_of fresh
+    opened_within = record {
+      book = record { list = list_then.0; index = rw rest_then (q.index i f) };
+      model = same_book new.capacity limit refl list_then.1 (ap (λ (w : List ℕ). index.model_of w i) rest_then ∙ q.model i f) refl;
+      heap = ap (λ (w : List ℕ). index.heap_of w i) rest_then ∙ q.heap i f;
       kept = kept_then refl refl (kept_list c d p.kept) (rest_kept ws₁ (start c) fits ys q.kept.size c d refl q.kept);
     }

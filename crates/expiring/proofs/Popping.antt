@@ -24,13 +24,16 @@ use Rattle.expiring.proofs.Limits.{same_value}
 use Rattle.expiring.proofs.Frames.{kept_then}
 use Rattle.expiring.proofs.Moving.{pairs_keep, heap_keep, lent, back, lent_is, lent_index, rest_index, list_same, index_kept}
 
+same_some : {A : Type 0} {x y : A} → Some x ≡ Some y → x ≡ y
+same_some e = cc
+
 none_told : (x : Option Pair) → None ≡ pair_in x → x ≡ None
 none_told None e = refl
 none_told (Some p) e = cc
 
 some_told : (x : Option Pair) {k : ℕ} {d : Tick} → Some (k, d) ≡ pair_in x → (p : Pair) × (x ≡ Some p) × (p.key ≡ k)
 some_told None e = cc
-some_told (Some p) {k} e = (p, refl, let same : p.key ≡ k = cc in same)
+some_told (Some p) e = (p, refl, sym (ap (λ (y : ℕ × Tick). y.0) (same_some e)))
 
 module _ (ws : List ℕ) (b : Expiring) (room : Room (length ws) (capacity_of b) (limit_of b)) (t : Tick) {ys : List ℕ} {x : ExpirationIndex} {r : Result (Counted (Option (ℕ × Tick))) Refusal} (o : calls.PoppingExpired (lent ws b) b.index t ys x r) {y : Counted (Option (ℕ × Tick))} (e : r ≡ Ok y) where
   abbrev b₁ : Expiring

@@ -78,13 +78,13 @@ module _ {ws ws₁ : List ℕ} {b b₁ : Expiring} {t : Tick} {n s : ℕ} (so_fa
   -- one round
   module _ {ws₂ : List ℕ} {b₂ : Expiring} {r : Counted Bool} (o : PoppingExpired ws₁ b₁ t ws₂ b₂ r) where
     distinct : IsBook ws b → Distinct (deadlines_of ws₁ b₁)
-    distinct is = model_distinct (so_fab₂ is).index
+    distinct is = model_distinct (so_far.book is).index
 
     -- with one taken
     module _ (more : r.answer ≡ true) where
       module _ (is : IsBook ws b) where
         abbrev is₁ : IsBook ws₁ b₁
-        is₁ = so_fab₂ is
+        is₁ = so_far.book is
 
         found : (p : Pair) × (next_expired t (deadlines_of ws₁ b₁) ≡ Some p)
         found = some_in (next_expired t (deadlines_of ws₁ b₁)) (sym (o.popped is₁) ∙ more)
@@ -124,7 +124,7 @@ module _ {ws ws₁ : List ℕ} {b b₁ : Expiring} {t : Tick} {n s : ℕ} (so_fa
         limit = o.limit ∙ so_far.limit;
         lifetime = o.lifetime ∙ so_far.lifetime;
         expirations = o.expirations ∙ so_far.expirations;
-        book = λ is. o.book (so_fab₂ is);
+        book = λ is. o.book (so_far.book is);
         stored = values_next;
         deadlines = pairs_next;
         heap = heap_next;
@@ -136,7 +136,7 @@ module _ {ws ws₁ : List ℕ} {b b₁ : Expiring} {t : Tick} {n s : ℕ} (so_fa
     -- with none left to take
     module _ (end : r.answer ≡ false) where
       nothing : IsBook ws b → next_expired t (deadlines_of ws₁ b₁) ≡ None
-      nothing is = none_in (next_expired t (deadlines_of ws₁ b₁)) (sym (o.popped (so_fab₂ is)) ∙ end)
+      nothing is = none_in (next_expired t (deadlines_of ws₁ b₁)) (sym (o.popped (so_far.book is)) ∙ end)
 
       pub purge_count : IsBook ws b → n ≡ expired_count t (deadlines_of ws b)
       purge_count is = omega (arith, so_far.count is, count_none t (deadlines_of ws₁ b₁) (nothing is))
@@ -148,11 +148,11 @@ module _ {ws ws₁ : List ℕ} {b b₁ : Expiring} {t : Tick} {n s : ℕ} (so_fa
         limit = o.limit ∙ so_far.limit;
         lifetime = o.lifetime ∙ so_far.lifetime;
         expirations = o.expirations ∙ so_far.expirations;
-        book = λ is. o.book (so_fab₂ is);
-        stored = λ is. o.stored (so_fab₂ is) ∙ ap (λ (p : Option Pair). less_value p (stored_of ws₁ b₁)) (nothing is) ∙ sym (stored_none t (deadlines_of ws₁ b₁) (nothing is) (stored_of ws₁ b₁)) ∙ so_far.stored is;
-        deadlines = λ is. o.deadlines (so_fab₂ is) ∙ ap (λ (p : Option Pair). less p (deadlines_of ws₁ b₁)) (nothing is) ∙ sym (pairs_none t (deadlines_of ws₁ b₁) (nothing is)) ∙ so_far.deadlines is;
-        heap = λ is. o.heap (so_fab₂ is) ∙ ap (λ (p : Option Pair). taken_if p (heap_of ws₁ b₁)) (nothing is) ∙ sym (purged_none t (heap_of ws₁ b₁) (nothing is)) ∙ so_far.heap is;
-        discarded = λ is. omega (arith, so_far.discarded is, discards_none t (heap_of ws₁ b₁) (nothing is), o.stale (so_fab₂ is), few_discarded is t);
+        book = λ is. o.book (so_far.book is);
+        stored = λ is. o.stored (so_far.book is) ∙ ap (λ (p : Option Pair). less_value p (stored_of ws₁ b₁)) (nothing is) ∙ sym (stored_none t (deadlines_of ws₁ b₁) (nothing is) (stored_of ws₁ b₁)) ∙ so_far.stored is;
+        deadlines = λ is. o.deadlines (so_far.book is) ∙ ap (λ (p : Option Pair). less p (deadlines_of ws₁ b₁)) (nothing is) ∙ sym (pairs_none t (deadlines_of ws₁ b₁) (nothing is)) ∙ so_far.deadlines is;
+        heap = λ is. o.heap (so_far.book is) ∙ ap (λ (p : Option Pair). taken_if p (heap_of ws₁ b₁)) (nothing is) ∙ sym (purged_none t (heap_of ws₁ b₁) (nothing is)) ∙ so_far.heap is;
+        discarded = λ is. omega (arith, so_far.discarded is, discards_none t (heap_of ws₁ b₁) (nothing is), o.stale (so_far.book is), few_discarded is t);
         kept = kept_then so_far.capacity so_far.limit so_far.kept o.kept;
       }
 

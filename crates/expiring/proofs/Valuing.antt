@@ -51,25 +51,25 @@ value_of_lem k s = value_found (list.lookup k s)
 
 -- ---- the list's calls. What it refuses it would answer on no book.
 module _ {ws : List ℕ} {b : Expiring} {A : Type 0} {answer : Items → A} {r : Result A Refusal} where
-  pub said_asking : lru.Asking ws b.inner answer r → {u : A} → IsBook ws b → result_unwrap_or r u ≡ answer (stored_of ws b)
-  said_asking o {u} is = ap (λ (x : Result A Refusal). result_unwrap_or x u) (o.answer is.list)
+  pub said_asking : lru.Asking ws b.inner answer r → (u : A) → IsBook ws b → result_unwrap_or r u ≡ answer (stored_of ws b)
+  said_asking o u is = ap (λ (x : Result A Refusal). result_unwrap_or x u) (o.answer is.list)
 
   module _ {ws' : List ℕ} {f : Items → Items} {l : FastLru} (o : lru.Changing ws b.inner answer f ws' l r) where
     pub moved_values : Moved ws b keep f ws' (with_list b l) 0
     moved_values = moved_list b l o.capacity o.kept f o.list o.model
 
-    pub said_changing : {u : A} → IsBook ws b → result_unwrap_or r u ≡ answer (stored_of ws b)
-    said_changing {u} is = ap (λ (x : Result A Refusal). result_unwrap_or x u) (o.answer is.list)
+    pub said_changing : (u : A) → IsBook ws b → result_unwrap_or r u ≡ answer (stored_of ws b)
+    said_changing u is = ap (λ (x : Result A Refusal). result_unwrap_or x u) (o.answer is.list)
 
 -- ---- a deadline
 -- an answer told by a test
-beside_err : {A : Type 0} (z : Bool) {d : ℕ} {v w : Refusal} {a : A} → Err w ≡ beside d (cond z (Err v) (Ok a)) → z ≡ true
-beside_err true e = refl
-beside_err false {w = w} e = absurd (err_ok w e)
+beside_err : {A : Type 0} (z : Bool) (d : ℕ) (v : Refusal) (a : A) {w : Refusal} → Err w ≡ beside d (cond z (Err v) (Ok a)) → z ≡ true
+beside_err true d v a e = refl
+beside_err false d v a {w} e = absurd (err_ok w e)
 
-beside_ok : {A : Type 0} (z : Bool) {d : ℕ} {v : Refusal} {a : A} {x : Counted A} → Ok x ≡ beside d (cond z (Err v) (Ok a)) → (z ≡ false) × (x ≡ counted a d)
-beside_ok true {v = v} e = absurd (err_ok v (sym e))
-beside_ok false e = (refl, same_value e)
+beside_ok : {A : Type 0} (z : Bool) (d : ℕ) (v : Refusal) (a : A) {x : Counted A} → Ok x ≡ beside d (cond z (Err v) (Ok a)) → (z ≡ false) × (x ≡ counted a d)
+beside_ok true d v a e = absurd (err_ok v (sym e))
+beside_ok false d v a e = (refl, same_value e)
 
 module _ (ws : List ℕ) (b : Expiring) (room : Room (length ws) (capacity_of b) (limit_of b)) (k : ℕ) (t : Tick) {ys : List ℕ} {x : ExpirationIndex} {r : Result (Counted (Option Tick)) Refusal} (o : calls.Setting (lent ws b) b.index k t ys x r) where
   abbrev full : List ℕ → Bool
@@ -80,14 +80,14 @@ module _ (ws : List ℕ) (b : Expiring) (room : Room (length ws) (capacity_of b)
       ⊎_elim (λ q. absurd (err_ok why (sym (ap outcome_of e) ∙ q ∙ lent_limits ws b room))) (λ q. same_err (sym e ∙ q.1)) o.outcome
 
   taken : {y : Counted (Option Tick)} → r ≡ Ok y → IsBook ws b → (full (lent ws b) ≡ false) × (y ≡ counted (deadline_of k (index.model_of (lent ws b) b.index)) (update_discards k t.0 (index.heap_of (lent ws b) b.index)))
-  taken e is = beside_ok (full (lent ws b)) (sym e ∙ o.answer (lent_index ws b room is))
+  taken e is = beside_ok (full (lent ws b)) _ _ _ (sym e ∙ o.answer (lent_index ws b room is))
 
   pub dating : Dating ws b k t (back ws b ys) (with_index b x) r
   unfolding pairs_after heap_after discards
   dating = record {
     only = only;
     refused = λ why e. let same = o.refused why e in (ap (with_index b) same.0, ap (back ws b) same.1 ∙ put_same (start (capacity_of b)) (length ws - start (capacity_of b)) ws);
-    full = λ why e is. sym (ap full (lent_is ws b room)) ∙ beside_err (full (lent ws b)) (sym e ∙ o.answer (lent_index ws b room is));
+    full = λ why e is. sym (ap full (lent_is ws b room)) ∙ beside_err (full (lent ws b)) _ _ _ (sym e ∙ o.answer (lent_index ws b room is));
     free = λ y e is. sym (ap full (lent_is ws b room)) ∙ (taken e is).0;
     moved = λ y e.
         moved_index ws b room x o.kept (set k t) o.limit (λ is. o.index (lent_index ws b room is))

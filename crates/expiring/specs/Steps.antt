@@ -1,10 +1,11 @@
 -- What the private steps promise: which part of the book they change, and how.
 use Rattle.std.specs.Prelude.{◌≡◌, Bool, true, false, cond, List, ℕ, ◌+◌, ◌-◌, ◌^◌, min, length, Option, Some, None, is_some, Result, Ok, Err}
 use Rattle.time.specs.declared.tick.Tick.{Tick}
+use Rattle.time.specs.declared.duration.TtlTicks.{TtlTicks}
 use Rattle.time.specs.declared.refusal.Refusal.{Refusal}
 use Rattle.time.specs.declared.refusal.Refusal.TheVariants.{KeyLimitReached}
 use Rattle.lazy_heap_model.specs.declared.counted.Counted.{Counted}
-use Rattle.lazy_heap_model.specs.Model.{stale}
+use Rattle.lazy_heap_model.specs.Model.{opened, stale}
 use Rattle.fast_lru.specs.declared.lru.FastLru.{FastLru}
 use Rattle.fast_lru_model.specs.Model.{Items, inserted}
 use Rattle.fast_lru_model.specs.Model as list
@@ -19,9 +20,9 @@ use Rattle.expiring_model.specs.declared.answers.Answer.TheVariants as answers
 use Rattle.expiring_answers.specs.Answers.{of_found, come_by}
 use Rattle.expiring.specs.declared.answers.Reply.{Reply}
 use Rattle.expiring.specs.declared.expiring.Expiring.{Expiring}
-use Rattle.expiring_model.specs.Model.{Change, keep, set, drop, drop_expired, drop_all, look, pairs_after, has_come, value_in}
+use Rattle.expiring_model.specs.Model.{Change, keep, set, drop, drop_expired, drop_all, look, pairs_after, has_come, value_in, fresh}
 use Rattle.expiring_model.specs.Discards.{discards, heap_after}
-use Rattle.expiring.specs.Book.{capacity_of, limit_of, rest, IsBook, heap_of, Kept}
+use Rattle.expiring.specs.Book.{capacity_of, limit_of, rest, IsBook, heap_of, model_of, Kept}
 
 -- ---- the numbers
 -- "expirations (stops at u64::MAX)"
@@ -161,3 +162,10 @@ pub record PoppingExpired (ws : List ℕ) (b : Expiring) (t : Tick) (ws' : List 
 -- `purged`
 abbrev pub purging : Expiring → ℕ → ℕ → Reply
 purging b n stale = record { book = with_expired b n; answer = answers.Count n; discarded = saturating_sum n stale }
+
+-- `open_within`
+pub record Opened (ws : List ℕ) (c d s : ℕ) (l : Option TtlTicks) (ws' : List ℕ) (b : Expiring) : Type 0 where
+  pub book : IsBook ws' b
+  pub model : model_of ws' b 0 0 ≡ fresh c d l
+  pub heap : heap_of ws' b ≡ opened d index.factor s
+  pub kept : Kept c d ws ws'

@@ -7,7 +7,7 @@ ghost use Rattle.expiring_model.specs.Model.{Call, contains, peek, get, insert, 
 ghost use Rattle.expiring.specs.Book.{Room, capacity_of, limit_of};
 ghost use Rattle.expiring.specs.Calls.{Following, Opening, Checking, DeadlinesHeld, HeapLength};
 ghost use Rattle.expiring.specs.Changes.{Changing};
-ghost use Rattle.expiring.specs.Steps.{with_expired, replying, purging, DeadlineOf, Expired, Stored, StoredCount, ExpiredCount, Moved, same, PoppingExpired};
+ghost use Rattle.expiring.specs.Steps.{with_expired, replying, purging, DeadlineOf, Expired, Stored, StoredCount, ExpiredCount, Moved, same, PoppingExpired, Opened};
 
 pub mod changes;
 
@@ -30,6 +30,28 @@ pub struct Expiring {
     pub expirations: u64,
 }
 
+// A fresh list, and a fresh index in the words behind it.
+fn open_within(
+    words: &mut [u64],
+    capacity: usize,
+    limit: usize,
+    seq: u64,
+    default_ttl: Option<TtlTicks>,
+) -> Expiring
+    requires { Room (length words.old) capacity limit }
+    ensures { Opened words.old capacity limit seq default_ttl words.new result }
+{
+    let inner = FastLru::new(words, capacity).unwrap();
+    let start = 64 + 8 * capacity;
+    let index = ExpirationIndex::open(&mut words[start..], limit, seq).unwrap();
+    Expiring {
+        inner,
+        index,
+        default_ttl,
+        expirations: 0,
+    }
+}
+
 impl Expiring {
     // ---- opening
 
@@ -44,16 +66,8 @@ impl Expiring {
         ensures { Opening words.old capacity limit seq default_ttl words.new result }
     {
         limits::book(capacity, limit, words.len())?;
-        let default_ttl = default_ttl.map(time::duration_to_ticks).transpose()?;
-        let start = 64 + 8 * capacity;
-        let inner = FastLru::new(words, capacity)?;
-        let index = ExpirationIndex::open(&mut words[start..], limit, seq)?;
-        Ok(Expiring {
-            inner,
-            index,
-            default_ttl,
-            expirations: 0,
-        })
+        let default_ttl = default_ttl.map(|ttl| time::duration_to_ticks(ttl)).transpose()?;
+        Ok(open_within(words, capacity, limit, seq, default_ttl))
     }
 
     // ---- what is stored

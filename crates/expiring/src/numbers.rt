@@ -106,6 +106,6 @@ pub fn store_book(numbers: &mut [u64], book: Expiring)
     numbers[0] = book.inner.map.capacity as u64;
     numbers[3] = book.index.heap.scores.capacity as u64;
     numbers[9] = default_ttl.is_some() as u64;
-    numbers[10] = default_ttl.map_or(0, |ttl| ttl.0);
+    numbers[10] = default_ttl.unwrap_or(TtlTicks(0)).0;
     store_changed(numbers, book);
 }

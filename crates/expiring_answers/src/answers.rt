@@ -1,58 +1,37 @@
 // The list's answers, and the next due.
 ghost use Rattle.std.specs.Prelude.{◌≡◌};
-ghost use Rattle.expiring_model.specs.Model.{rank_in};
-ghost use Rattle.expiring_answers.specs.Answers.{of_found, of_told, of_oldest, of_due};
+ghost use Rattle.expiring_model.specs.Model.{rank_in, tell};
+ghost use Rattle.expiring_answers.specs.Answers.{of_found, of_oldest, of_due};
 
-use expiration_index::Due;
 use expiring_model::Answer;
-use fast_lru_model::{Found, Oldest, Rank, Told};
+use time::Tick;
 
-pub fn of_found(found: Found) -> Answer
-    ensures { result ≡ of_found found }
+pub fn of_found(value: Option<u64>) -> Answer
+    ensures { result ≡ of_found value }
 {
-    match found {
-        Found::Value(v) => Answer::Value(v),
-        Found::Nothing => Answer::Nothing,
-        Found::Refused(_) => Answer::Nothing,
-    }
+    value.map_or(Answer::Nothing, Answer::Value)
 }
 
-pub fn of_told(told: Told) -> Answer
-    ensures { result ≡ of_told told }
+pub fn of_told(yes: bool) -> Answer
+    ensures { result ≡ tell yes }
 {
-    match told {
-        Told::Yes => Answer::Yes,
-        Told::No => Answer::No,
-        Told::Refused(_) => Answer::No,
-    }
+    if yes { Answer::Yes } else { Answer::No }
 }
 
-pub fn of_oldest(oldest: Oldest) -> Answer
-    ensures { result ≡ of_oldest oldest }
+pub fn of_oldest(item: Option<(u64, u64)>) -> Answer
+    ensures { result ≡ of_oldest item }
 {
-    match oldest {
-        Oldest::Item(key, value) => Answer::Item(key, value),
-        Oldest::Nothing => Answer::Nothing,
-        Oldest::Refused(_) => Answer::Nothing,
-    }
+    item.map_or(Answer::Nothing, |(key, value)| Answer::Item(key, value))
 }
 
-pub fn of_rank(rank: Rank) -> Answer
+pub fn of_rank(rank: Option<usize>) -> Answer
     ensures { result ≡ rank_in rank }
 {
-    match rank {
-        Rank::At(n) => Answer::Rank(n as u64),
-        Rank::Nothing => Answer::Nothing,
-        Rank::Refused(_) => Answer::Nothing,
-    }
+    rank.map_or(Answer::Nothing, |n| Answer::Rank(n as u64))
 }
 
-pub fn of_due(due: Due) -> Answer
-    ensures { result ≡ of_due due }
+pub fn of_due(pair: Option<(u64, Tick)>) -> Answer
+    ensures { result ≡ of_due pair }
 {
-    match due {
-        Due::Pair(key, deadline) => Answer::Due(key, deadline),
-        Due::Nothing => Answer::Nothing,
-        Due::Refused(_) => Answer::Nothing,
-    }
+    pair.map_or(Answer::Nothing, |(key, deadline)| Answer::Due(key, deadline))
 }

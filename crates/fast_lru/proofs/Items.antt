@@ -2,12 +2,11 @@
 use mathlib.Core.Path.{◌≡◌, refl, ap, ◌∙◌}
 use mathlib.Core.Bool.{Bool, true, false, cond, ◌||◌}
 use mathlib.Core.List.{[], ◌∷◌}
-use mathlib.Core.Option.{some}
 use Prim.Native.Nat.{ℕ, zero, suc}
 use lib.Dec.{eqb}
 use lib.ListN.{length, length-map}
-use Rattle.linked_hash_map.specs.declared.map.Taken.{Taken}
-use Rattle.linked_hash_map.specs.declared.map.Taken.TheVariants as taken
+use Rattle.std.specs.Prelude.{Option, Some, None}
+use Rattle.linked_hash_map.specs.declared.map.Record.{Record}
 use Rattle.linked_hash_map.specs.Model as held
 use Rattle.fast_lru_model.specs.Model.{Items, lookup, has, without, to_front, Distinct}
 use Rattle.fast_lru.specs.Lru.{item_of, items}
@@ -21,7 +20,7 @@ unfolding lookup held.lookup
 lookup_items k [] = refl
 lookup_items k (r ∷ m) = go (eqb r.key k) (lookup_items k m)
   where
-    go : (b : Bool) → lookup k (items m) ≡ taking (held.lookup k m) → cond b (some (item_of r)) (lookup k (items m)) ≡ taking (cond b (taken.Record r) (held.lookup k m))
+    go : (b : Bool) → lookup k (items m) ≡ taking (held.lookup k m) → cond b (Some (item_of r)) (lookup k (items m)) ≡ taking (cond b (Some r) (held.lookup k m))
     go true ih = refl
     go false ih = ih
 
@@ -43,10 +42,9 @@ pub front_items : (k : ℕ) (m : held.Model) → items (held.to_front k m) ≡ t
 unfolding to_front held.to_front
 front_items k m = go (held.lookup k m) refl
   where
-    go : (t : Taken) → held.lookup k m ≡ t → items (held.to_front k m) ≡ to_front k (items m)
-    go (taken.Record r) e = rw (lookup_items k m, e) (ap (λ (l : Items). item_of r ∷ l) (without_items k m))
-    go taken.Nothing e = rw (lookup_items k m, e)
-    go taken.Refused e = rw (lookup_items k m, e)
+    go : (o : Option Record) → held.lookup k m ≡ o → items (held.to_front k m) ≡ to_front k (items m)
+    go (Some r) e = rw (lookup_items k m, e) (ap (λ (l : Items). item_of r ∷ l) (without_items k m))
+    go None e = rw (lookup_items k m, e)
 
 pub nth_items : (i : ℕ) (m : held.Model) → nth i (items m) ≡ taking (held.nth i m)
 unfolding nth held.nth

@@ -2,8 +2,7 @@ pub mod Lists
 pub mod Items
 pub mod Limits
 pub mod Slots
-pub mod Taking
 pub mod Placing
-pub mod Reading
+pub mod Ranks
 pub mod Changing
 pub mod Laws

@@ -2,89 +2,59 @@
 use mathlib.Core.Path.{◌≡◌, refl, ◌∙◌}
 use mathlib.Core.Bool.{Bool, true, false, cond, ◌&&◌}
 use mathlib.Core.List.{List}
-use Prim.Native.Nat.{ℕ, ◌+◌, ◌*◌, ◌<◌, ◌≤◌}
+use Prim.Native.Nat.{ℕ, ◌+◌, ◌*◌, ◌≤◌}
 use native.Mathlib.Omega.{arith}
 use lib.Dec.{eqb, ltb}
 use lib.ListN.{length}
-use borrow.Author.Tests.{lt-ltb, le-ltb, ltb-false, eq-eqb, ne_eqb, eqb-true, le-leb}
+use borrow.Author.Tests.{le-ltb, ltb-false, eqb-true, le-leb}
+use Rattle.std.specs.Prelude.{Result, Ok, Err, ⊤}
 use Rattle.time.specs.declared.refusal.Refusal.{Refusal}
-use Rattle.time.specs.declared.refusal.Outcome.{Outcome}
-use Rattle.time.specs.declared.refusal.Outcome.TheVariants.{Done, Refused}
 use Rattle.time.specs.declared.refusal.Refusal.TheVariants.{LimitOutOfRange, TooFewWords}
 use Rattle.limits.specs.Limits.{map_fits, list_limits}
 use Rattle.linked_hash_map.specs.Words as words
-use Rattle.linked_hash_map.specs.Map.{IsMap}
 use Rattle.fast_lru.specs.declared.lru.FastLru.{FastLru}
 use Rattle.fast_lru.specs.Refusals.{words_for, out_of_range, admitted}
 use Rattle.fast_lru.specs.Lru.{IsList, Kept}
 
 -- what is done is not refused
-pub done : {o : Outcome} {why : Refusal} → o ≡ Done → o ≡ Refused why → ⊥
-done p q = let z : ◌≡◌ {A = ℕ} 0 1 = cc in omega arith
+pub done : {o : Result ⊤ Refusal} {why : Refusal} → o ≡ Ok tt → o ≡ Err why → ⊥
+done p q = cc
 
 -- ---- causes 1 and 2
-pub opening_room : (c size : ℕ) → c ≤ 4096 → words_for c ≤ size → list_limits c size ≡ Done
+pub opening_room : (c size : ℕ) → c ≤ 4096 → words_for c ≤ size → list_limits c size ≡ Ok tt
 unfolding list_limits
 opening_room c size h s = rw (le-ltb 4096 c h, le-ltb size (words_for c) s)
 
-module _ (l : FastLru) (size : ℕ) where
-  pub admitted_out : out_of_range l ≡ true → admitted l size ≡ Refused LimitOutOfRange
-  unfolding admitted
-  admitted_out e = rw e
-
-  pub admitted_in : out_of_range l ≡ false → admitted l size ≡ list_limits l.map.capacity size
-  unfolding admitted
-  admitted_in e = rw e
+admitted_in : (l : FastLru) (size : ℕ) → out_of_range l ≡ false → admitted l size ≡ list_limits l.map.capacity size
+unfolding admitted
+admitted_in l size e = rw e
 
 -- ---- what an admitted call knows
 pub record Fits (c size : ℕ) : Type 0 where
   pub limit : c ≤ 4096
   pub words : words_for c ≤ size
 
-pub opening_fits : (c size : ℕ) → list_limits c size ≡ Done → Fits c size
+pub opening_fits : (c size : ℕ) → list_limits c size ≡ Ok tt → Fits c size
 unfolding list_limits
 opening_fits c size e = go (ltb 4096 c) refl (ltb size (words_for c)) refl e
   where
-    go : (a : Bool) → ltb 4096 c ≡ a → (b : Bool) → ltb size (words_for c) ≡ b → cond a (Refused LimitOutOfRange) (cond b (Refused TooFewWords) Done) ≡ Done → Fits c size
-    go true p b q t = absurd (done t refl)
-    go false p true q t = absurd (done t refl)
+    go : (a : Bool) → ltb 4096 c ≡ a → (b : Bool) → ltb size (words_for c) ≡ b → ◌≡◌ {A = Result ⊤ Refusal} (cond a (Err LimitOutOfRange) (cond b (Err TooFewWords) (Ok tt))) (Ok tt) → Fits c size
+    go true p b q t = cc
+    go false p true q t = cc
     go false p false q t = record { limit = ltb-false _ _ p; words = ltb-false _ _ q }
 
-pub admitted_fits : (l : FastLru) (size : ℕ) → admitted l size ≡ Done → Fits l.map.capacity size
+pub admitted_fits : (l : FastLru) (size : ℕ) → admitted l size ≡ Ok tt → Fits l.map.capacity size
 unfolding admitted
 admitted_fits l size e = go (out_of_range l) e
   where
-    go : (a : Bool) → cond a (Refused LimitOutOfRange) (list_limits l.map.capacity size) ≡ Done → Fits l.map.capacity size
-    go true t = absurd (done t refl)
+    go : (a : Bool) → cond a (Err LimitOutOfRange) (list_limits l.map.capacity size) ≡ Ok tt → Fits l.map.capacity size
+    go true t = cc
     go false t = opening_fits _ _ t
 
 -- what fits the list fits the map
 pub fits_map : {c size : ℕ} → Fits c size → map_fits c size ≡ true
 unfolding map_fits
 fits_map {c} {size} f = rw (le-leb c 4096 f.limit, le-leb (8 * c + 58) size (omega (arith, f.words)))
-
--- ---- cause 1 at the later calls, test by test
-module _ (l : FastLru) where
-  pub range_high : 4096 < l.map.capacity → out_of_range l ≡ true
-  unfolding out_of_range
-  range_high h = rw (lt-ltb 4096 l.map.capacity h)
-
-  module _ (h : l.map.capacity ≤ 4096) where
-    pub range_room : 0 < l.map.capacity → out_of_range l ≡ false
-    unfolding out_of_range
-    range_room c = rw (le-ltb 4096 l.map.capacity h, ne_eqb l.map.capacity 0 (λ e. omega arith))
-
-    module _ (c : l.map.capacity ≤ 0) where
-      none : l.map.capacity ≡ 0
-      none = omega arith
-
-      pub range_held : 0 < l.map.len → out_of_range l ≡ false
-      unfolding out_of_range
-      range_held n = rw (le-ltb 4096 l.map.capacity h, eq-eqb l.map.capacity 0 none, ne_eqb l.map.len 0 (λ e. omega arith))
-
-      pub range_blank : l.map.len ≤ 0 → out_of_range l ≡ eqb l.map.refill_in 0
-      unfolding out_of_range
-      range_blank n = let e : l.map.len ≡ 0 = omega arith in rw (le-ltb 4096 l.map.capacity h, eq-eqb l.map.capacity 0 none, eq-eqb l.map.len 0 e)
 
 -- ---- a list is admitted
 in_range : (l : FastLru) → l.map.capacity ≤ 4096 → 1 ≤ l.map.refill_in → out_of_range l ≡ false
@@ -101,7 +71,7 @@ module _ {ws : List ℕ} {l : FastLru} (is : IsList ws l) where
   list_in_range : out_of_range l ≡ false
   list_in_range = in_range l is.map.room.limit is.map.opened
 
-  pub list_admitted : admitted l (length ws) ≡ Done
+  pub list_admitted : admitted l (length ws) ≡ Ok tt
   list_admitted = admitted_in l (length ws) list_in_range ∙ opening_room l.map.capacity (length ws) is.map.room.limit is.words
 
 -- ---- what is kept
@@ -110,11 +80,3 @@ kept_same c ws = record { size = refl; past = λ j h. refl }
 
 pub kept_map : {c : ℕ} {ws ws' : List ℕ} → words.Kept c ws ws' → Kept c ws ws'
 kept_map k = record { size = k.size; past = λ j h. k.past j (omega arith) }
-
--- one after the other
-pub kept_then : {c d : ℕ} {ws ws' ws'' : List ℕ} → words.Kept c ws ws' → words.Kept d ws' ws'' → d ≡ c → words.Kept c ws ws''
-kept_then a b e = record { size = b.size ∙ a.size; past = λ j h. b.past j (omega arith) ∙ a.past j h }
-
--- a map in the words of a list is a list
-pub list_after : {ws ws' : List ℕ} {l : FastLru} (r : FastLru) → IsList ws l → words.Kept l.map.capacity ws ws' → r.map.capacity ≡ l.map.capacity → IsMap ws' r.map → IsList ws' r
-list_after r is k e m = record { map = m; words = omega (arith, k.size, is.words) }

@@ -2,20 +2,18 @@
 use mathlib.Core.Path.{◌≡◌, refl, sym, ap, ◌∙◌}
 use mathlib.Core.Bool.{Bool, true, false, true≢false, cond, ◌||◌}
 use mathlib.Core.List.{[], ◌∷◌}
-use mathlib.Core.Option.{Option, none, some}
 use Prim.Native.Nat.{ℕ, zero, suc, ◌+◌, ◌-◌, ◌<◌, ◌≤◌}
 use native.Mathlib.Nat.{not-suc-le-zero, le_of_suc-le-suc}
 use native.Mathlib.Omega.{arith}
 use lib.Dec.{eqb}
 use lib.ListN.{length}
 use borrow.Author.Tests.{eq-eqb, ne_eqb, eqb-true, lt-ltb, le-ltb}
-use Rattle.fast_lru_model.specs.declared.answers.Found.TheVariants as found
-use Rattle.fast_lru_model.specs.declared.answers.Rank.TheVariants as rank
+use Rattle.std.specs.Prelude.{Option, Some, None}
 use Rattle.fast_lru_model.specs.Model.{Item, Items, lookup, has, without, last, less, value_of, victim, evicted, with_room, inserted, rank_from, Distinct}
 use Rattle.fast_lru.specs.Steps.{nth}
 
 -- ---- places
-pub nth_past : (i : ℕ) (l : Items) → length l ≤ i → nth i l ≡ none
+pub nth_past : (i : ℕ) (l : Items) → length l ≤ i → nth i l ≡ None
 unfolding nth
 nth_past i [] h = refl
 nth_past zero (x ∷ l) h = absurd (not-suc-le-zero h)
@@ -29,9 +27,9 @@ last_nth (x ∷ (y ∷ l)) =
     let e : length (x ∷ (y ∷ l)) - 1 ≡ suc (length (y ∷ l) - 1) = omega arith in
     last_nth (y ∷ l) ∙ ap (λ (n : ℕ). nth n (x ∷ (y ∷ l))) (sym e)
 
-pub nth_has : (i : ℕ) (l : Items) (x : Item) → nth i l ≡ some x → has x.key l ≡ true
+pub nth_has : (i : ℕ) (l : Items) (x : Item) → nth i l ≡ Some x → has x.key l ≡ true
 unfolding nth has
-nth_has i [] x e = absurd (let z : ◌≡◌ {A = ℕ} 0 1 = cc in omega arith)
+nth_has i [] x e = cc
 nth_has zero (y ∷ l) x e = let s : y ≡ x = cc in rw (eq-eqb y.key x.key (ap (λ (z : Item). z.key) s))
 nth_has (suc i) (y ∷ l) x e = rw (nth_has i l x e) (any (eqb y.key x.key))
   where
@@ -41,22 +39,22 @@ nth_has (suc i) (y ∷ l) x e = rw (nth_has i l x e) (any (eqb y.key x.key))
 
 -- ---- ranks
 -- no two items have one key, so where it stands is its rank
-pub rank_there : (n m k i : ℕ) (l : Items) (x : Item) → m ≡ n + i → Distinct l → nth i l ≡ some x → x.key ≡ k → rank_from n k l ≡ rank.At m
+pub rank_there : (n m k i : ℕ) (l : Items) (x : Item) → m ≡ n + i → Distinct l → nth i l ≡ Some x → x.key ≡ k → rank_from n k l ≡ Some m
 unfolding nth rank_from
-rank_there n m k i [] x q d e h = absurd (let z : ◌≡◌ {A = ℕ} 0 1 = cc in omega arith)
+rank_there n m k i [] x q d e h = cc
 rank_there n m k zero (y ∷ l) x q d e h =
     let s : y ≡ x = cc in
     let here : n ≡ m = omega arith in
-    rw (eq-eqb y.key k (ap (λ (z : Item). z.key) s ∙ h)) (ap rank.At here)
+    rw (eq-eqb y.key k (ap (λ (z : Item). z.key) s ∙ h)) (ap Some here)
 rank_there n m k (suc i) (y ∷ l) x q (new, d) e h =
     let other : y.key ≡ k → ⊥ = λ p. true≢false (sym (nth_has i l x e) ∙ ap (λ (j : ℕ). has j l) (h ∙ sym p) ∙ new) in
     rw (ne_eqb y.key k other) (rank_there (n + 1) m k i l x (omega arith) d e h)
 
 -- wherever an item of a key stands, its place is one of these
 abbrev pub Within : ℕ → Items → (ℕ → Type 0) → Type 0
-Within k l P = (i : ℕ) (x : Item) → i < length l → nth i l ≡ some x → x.key ≡ k → P i
+Within k l P = (i : ℕ) (x : Item) → i < length l → nth i l ≡ Some x → x.key ≡ k → P i
 
-pub rank_nowhere : (n k : ℕ) (l : Items) → Within k l (λ i. ⊥) → rank_from n k l ≡ rank.Nothing
+pub rank_nowhere : (n k : ℕ) (l : Items) → Within k l (λ i. ⊥) → rank_from n k l ≡ None
 unfolding nth rank_from
 rank_nowhere n k [] bare = refl
 rank_nowhere n k (x ∷ l) bare = rw (ne_eqb x.key k (bare 0 x (omega arith) refl)) (rank_nowhere (n + 1) k l (λ i y h. bare (suc i) y (omega arith)))
@@ -64,8 +62,8 @@ rank_nowhere n k (x ∷ l) bare = rw (ne_eqb x.key k (bare 0 x (omega arith) ref
 -- ---- keys
 -- a key has an item, a value and a place exactly where it is stored
 pub data Keyed (k : ℕ) (l : Items) : Type 0 where
-  stored : (i : Item) → i.key ≡ k → lookup k l ≡ some i → value_of k l ≡ found.Value i.value → has k l ≡ true → Keyed k l
-  missing : lookup k l ≡ none → value_of k l ≡ found.Nothing → has k l ≡ false → Keyed k l
+  stored : (i : Item) → i.key ≡ k → lookup k l ≡ Some i → value_of k l ≡ Some i.value → has k l ≡ true → Keyed k l
+  missing : lookup k l ≡ None → value_of k l ≡ None → has k l ≡ false → Keyed k l
 
 pub keyed : (k : ℕ) (l : Items) → Keyed k l
 unfolding lookup has value_of
@@ -115,9 +113,9 @@ module _ (k : ℕ) where
     lookup_without_other [] = refl
     lookup_without_other (x ∷ l) = go (eqb x.key j) refl (lookup_without_other l)
       where
-        go : (b : Bool) → eqb x.key j ≡ b → lookup k (without j l) ≡ lookup k l → lookup k (cond b (without j l) (x ∷ without j l)) ≡ cond (eqb x.key k) (some x) (lookup k l)
+        go : (b : Bool) → eqb x.key j ≡ b → lookup k (without j l) ≡ lookup k l → lookup k (cond b (without j l) (x ∷ without j l)) ≡ cond (eqb x.key k) (Some x) (lookup k l)
         go true e ih = rw (ne_eqb x.key k (λ q. other (sym (eqb-true x.key j e) ∙ q))) ih
-        go false e ih = ap (λ (o : Option Item). cond (eqb x.key k) (some x) o) ih
+        go false e ih = ap (λ (o : Option Item). cond (eqb x.key k) (Some x) o) ih
 
 pub has_without_any : (k j : ℕ) (l : Items) → has k l ≡ false → has k (without j l) ≡ false
 unfolding has without
@@ -149,18 +147,18 @@ shorter_without k (x ∷ l) h = go (eqb x.key k) h (shorter_without k l) (length
     go false q ih le = omega (arith, ih q)
 
 -- the last item is stored
-pub last_has : (l : Items) (i : Item) → last l ≡ some i → has i.key l ≡ true
+pub last_has : (l : Items) (i : Item) → last l ≡ Some i → has i.key l ≡ true
 last_has l i e = nth_has (length l - 1) l i (sym (last_nth l) ∙ e)
 
 -- a list with no last item is empty
-last_none : (l : Items) → last l ≡ none → length l ≡ 0
+last_none : (l : Items) → last l ≡ None → length l ≡ 0
 unfolding last
 last_none [] e = refl
-last_none (x ∷ []) e = absurd (let z : ◌≡◌ {A = ℕ} 0 1 = cc in omega arith)
+last_none (x ∷ []) e = cc
 last_none (x ∷ (y ∷ l)) e = absurd (omega (arith, last_none (y ∷ l) e))
 
 -- ---- an item pushed out
-pub victim_none : (l : Items) → victim l ≡ none → length l ≡ 0
+pub victim_none : (l : Items) → victim l ≡ None → length l ≡ 0
 unfolding victim
 victim_none = last_none
 
@@ -169,11 +167,11 @@ unfolding evicted
 has_evicted k l h = go (victim l)
   where
     go : (o : Option Item) → has k (less o l) ≡ false
-    go none = h
-    go (some i) = has_without_any k i.key l h
+    go None = h
+    go (Some i) = has_without_any k i.key l h
 
 -- the item that makes room is one of the list's
-pub victim_stored : (l : Items) (i : Item) → victim l ≡ some i → has i.key l ≡ true
+pub victim_stored : (l : Items) (i : Item) → victim l ≡ Some i → has i.key l ≡ true
 unfolding victim
 victim_stored = last_has
 

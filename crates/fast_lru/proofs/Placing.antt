@@ -2,18 +2,16 @@
 use mathlib.Core.Path.{◌≡◌, refl, sym, ap, ◌∙◌}
 use mathlib.Core.Bool.{true, false}
 use mathlib.Core.List.{List, ◌∷◌}
-use mathlib.Core.Option.{Option, none, some}
 use Prim.Native.Nat.{ℕ, ◌<◌, ◌≤◌}
 use native.Mathlib.Decide.{dec_lt}
 use native.Mathlib.Omega.{arith}
 use lib.ListN.{length}
 use borrow.Author.Tests.{lt-ltb, le-ltb}
-use Rattle.time.specs.declared.refusal.Refusal.{Refusal}
+use Rattle.std.specs.Prelude.{Option, Some, None, Ok, Err}
+use Rattle.std.proofs.lemmas.Option.{some_pair_parts}
 use Rattle.linked_hash_map.specs.declared.map.LinkedHashMap.{LinkedHashMap}
 use Rattle.linked_hash_map.specs.declared.map.Record.{Record}
-use Rattle.linked_hash_map.specs.declared.map.Put.{Put}
-use Rattle.linked_hash_map.specs.declared.map.Placed.TheVariants as placed
-use Rattle.linked_hash_map.specs.declared.map.Taken.TheVariants as taken
+use Rattle.linked_hash_map.specs.declared.map.PutError.TheVariants as failed
 use Rattle.linked_hash_map.specs.Model as held
 use Rattle.linked_hash_map.specs.Map.{IsMap}
 use Rattle.linked_hash_map.specs.Map as map
@@ -22,9 +20,6 @@ use Rattle.linked_hash_map.proofs.Laws as laws
 use Rattle.linked_hash_map.proofs.Putting as putting
 use Rattle.linked_hash_map.proofs.Recycling.{recycled_new}
 use Rattle.fast_lru.specs.declared.lru.FastLru.{FastLru}
-use Rattle.fast_lru_model.specs.declared.answers.Found.TheVariants as found
-use Rattle.fast_lru_model.specs.declared.answers.Oldest.{Oldest}
-use Rattle.fast_lru_model.specs.declared.answers.Oldest.TheVariants as oldest
 use Rattle.fast_lru_model.specs.Model.{Item, Items, has, without, less, value_in, item_in, value_of, victim, evicted, inserted}
 use Rattle.fast_lru.specs.Lru.{item_of, items, model_of}
 use Rattle.fast_lru.specs.Steps.{taking, Choosing, PlacingFull, Placing}
@@ -41,82 +36,73 @@ unfolding held.put
 put_new c x m h b = rw (h, lt-ltb (length m) c b) (ap (λ (l : Items). item_of x ∷ l) (without_items x.key m))
 
 -- ---- a new key in a full list
--- an answer with no item
-pub nothing_not_item : {o : Oldest} → o ≡ oldest.Nothing → (k v : ℕ) → o ≡ oldest.Item k v → ⊥
-nothing_not_item e k v q = let z : ◌≡◌ {A = ℕ} 0 1 = cc in omega arith
-
-pub refused_not_item : {o : Oldest} {why : Refusal} → o ≡ oldest.Refused why → (k v : ℕ) → o ≡ oldest.Item k v → ⊥
-refused_not_item e k v q = let z : ◌≡◌ {A = ℕ} 0 1 = cc in omega arith
-
-module _ (ws : List ℕ) (l : FastLru) (x : Record) (o : Oldest) (chosen : Choosing ws l o) where
-  -- an empty list is full where there is no capacity
-  pub placing_nothing : ((k v : ℕ) → o ≡ oldest.Item k v → ⊥) → PlacingFull ws l x ws l
-  placing_nothing none-chosen = record {
-    capacity = refl;
-    map = λ is. is;
-    model = λ is h f. sym (inserted_none l.map.capacity (item_of x) (model_of ws l) (omega (arith, empty is)));
-    kept = record { size = refl; past = λ j h. refl };
-  }
-    where
-      empty : IsMap ws l.map → length (model_of ws l) ≡ 0
-      empty is = go (victim (model_of ws l)) refl
-        where
-          go : (i : Option Item) → victim (model_of ws l) ≡ i → length (model_of ws l) ≡ 0
-          go none e = victim_none (model_of ws l) e
-          go (some i) e = absurd (none-chosen i.key i.value (chosen.answer is ∙ ap item_in e))
-
-  module _ (k v : ℕ) (q : o ≡ oldest.Item k v) (ws' : List ℕ) (r : LinkedHashMap) (rc : Recycling ws l.map k x ws' r) where
-    -- the list without its victim
-    gone : IsMap ws l.map → (evicted (model_of ws l) ≡ without k (model_of ws l)) × (has k (model_of ws l) ≡ true)
-    unfolding evicted
-    gone is = go (victim (model_of ws l)) refl
+-- an empty list is full where there is no capacity
+pub placing_nothing : (ws : List ℕ) (l : FastLru) (x : Record) → Choosing ws l None → PlacingFull ws l x ws l
+placing_nothing ws l x chosen = record {
+  capacity = refl;
+  map = λ is. is;
+  model = λ is h f. sym (inserted_none l.map.capacity (item_of x) (model_of ws l) (omega (arith, empty is)));
+  kept = record { size = refl; past = λ j h. refl };
+}
+  where
+    empty : IsMap ws l.map → length (model_of ws l) ≡ 0
+    empty is = go (victim (model_of ws l)) refl
       where
-        go : (i : Option Item) → victim (model_of ws l) ≡ i → (less (victim (model_of ws l)) (model_of ws l) ≡ without k (model_of ws l)) × (has k (model_of ws l) ≡ true)
-        go none e = absurd (let no : oldest.Item k v ≡ oldest.Nothing = sym q ∙ chosen.answer is ∙ ap item_in e in let z : ◌≡◌ {A = ℕ} 0 1 = cc in omega arith)
-        go (some i) e =
-            let same : oldest.Item k v ≡ oldest.Item i.key i.value = sym q ∙ chosen.answer is ∙ ap item_in e in
-            let key : i.key ≡ k = cc in (
-              ap (λ (y : Option Item). less y (model_of ws l)) e ∙ ap (λ (j : ℕ). without j (model_of ws l)) key,
-              rw (sym key) (victim_stored (model_of ws l) i e),
-            )
+        go : (i : Option Item) → victim (model_of ws l) ≡ i → length (model_of ws l) ≡ 0
+        go None e = victim_none (model_of ws l) e
+        go (Some i) e = cc (chosen.answer is, ap item_in e)
 
-    pub placing_full : PlacingFull ws l x ws' (record { map = r })
-    unfolding model_of
-    placing_full = record {
-      capacity = rc.capacity;
-      map = rc.map;
-      model = λ is h f.
-          let m = map.model_of ws l.map in
-          let stored : has k (items m) ≡ true = (gone is).1 in
-          let new : held.has x.key (held.without k m) ≡ false = sym (has_items x.key (held.without k m)) ∙ ap (has x.key) (without_items k m) ∙ has_without_any x.key k (items m) h in
-          ap items (rc.model is ∙ recycled_new k x m (sym (has_items k m) ∙ stored) new)
-          ∙ ap (λ (y : Items). item_of x ∷ y) (without_items k m ∙ sym (gone is).0 ∙ sym (without_missing x.key (evicted (items m)) (has_evicted x.key (items m) h)))
-          ∙ sym (inserted_full l.map.capacity (item_of x) (items m) (omega (arith, shorter_without k (items m) stored, length_items m, putting.model_length ws l.map, is.count)) h f);
-      kept = rc.kept;
-    }
+module _ (ws : List ℕ) (l : FastLru) (x : Record) (k v : ℕ) (chosen : Choosing ws l (Some (k, v))) (ws' : List ℕ) (r : LinkedHashMap) (rc : Recycling ws l.map k x ws' r) where
+  -- the list without its victim
+  gone : IsMap ws l.map → (evicted (model_of ws l) ≡ without k (model_of ws l)) × (has k (model_of ws l) ≡ true)
+  unfolding evicted
+  gone is = go (victim (model_of ws l)) refl
+    where
+      go : (i : Option Item) → victim (model_of ws l) ≡ i → (less (victim (model_of ws l)) (model_of ws l) ≡ without k (model_of ws l)) × (has k (model_of ws l) ≡ true)
+      go None e = cc (chosen.answer is, ap item_in e)
+      go (Some i) e =
+          let key : k ≡ i.key = (some_pair_parts k i.key v i.value (chosen.answer is ∙ ap item_in e)).0 in (
+            ap (λ (y : Option Item). less y (model_of ws l)) e ∙ ap (λ (j : ℕ). without j (model_of ws l)) (sym key),
+            rw key (victim_stored (model_of ws l) i e),
+          )
+
+  pub placing_full : PlacingFull ws l x ws' (record { map = r })
+  unfolding model_of
+  placing_full = record {
+    capacity = rc.capacity;
+    map = rc.map;
+    model = λ is h f.
+        let m = map.model_of ws l.map in
+        let stored : has k (items m) ≡ true = (gone is).1 in
+        let new : held.has x.key (held.without k m) ≡ false = sym (has_items x.key (held.without k m)) ∙ ap (has x.key) (without_items k m) ∙ has_without_any x.key k (items m) h in
+        ap items (rc.model is ∙ recycled_new k x m (sym (has_items k m) ∙ stored) new)
+        ∙ ap (λ (y : Items). item_of x ∷ y) (without_items k m ∙ sym (gone is).0 ∙ sym (without_missing x.key (evicted (items m)) (has_evicted x.key (items m) h)))
+        ∙ sym (inserted_full l.map.capacity (item_of x) (items m) (omega (arith, shorter_without k (items m) stored, length_items m, putting.model_length ws l.map, is.count)) h f);
+    kept = rc.kept;
+  }
 
 -- ---- any key: what the map answers, and what that says of the list
 data Case (c : ℕ) (x : Record) (m : held.Model) : Type 0 where
-  over : (r : Record) → held.placing c x m ≡ placed.Replaced r → value_of x.key (items m) ≡ found.Value r.first → items (held.put c x m) ≡ inserted c (item_of x) (items m) → Case c x m
-  new : held.placing c x m ≡ placed.Inserted → value_of x.key (items m) ≡ found.Nothing → items (held.put c x m) ≡ inserted c (item_of x) (items m) → Case c x m
-  full : held.placing c x m ≡ placed.Full → value_of x.key (items m) ≡ found.Nothing → has x.key (items m) ≡ false → c ≤ length (items m) → Case c x m
+  over : (r : Record) → held.placing c x m ≡ Ok (Some r) → value_of x.key (items m) ≡ Some r.first → items (held.put c x m) ≡ inserted c (item_of x) (items m) → Case c x m
+  new : held.placing c x m ≡ Ok None → value_of x.key (items m) ≡ None → items (held.put c x m) ≡ inserted c (item_of x) (items m) → Case c x m
+  full : held.placing c x m ≡ Err failed.Full → value_of x.key (items m) ≡ None → has x.key (items m) ≡ false → c ≤ length (items m) → Case c x m
 
 module _ (c : ℕ) (x : Record) (m : held.Model) where
-  case_over : (r : Record) → length m ≤ c → held.lookup x.key m ≡ taken.Record r → held.has x.key m ≡ true → Case c x m
+  case_over : (r : Record) → length m ≤ c → held.lookup x.key m ≡ Some r → held.has x.key m ≡ true → Case c x m
   unfolding held.placing value_of
   case_over r k b h =
       let stored : has x.key (items m) ≡ true = has_items x.key m ∙ h in
       over r (rw b) (ap value_in (lookup_items x.key m ∙ ap taking b))
       (put_over c x m h ∙ sym (inserted_over c (item_of x) (items m) (omega (arith, shorter_without x.key (items m) stored, length_items m)) stored))
 
-  case_new : held.lookup x.key m ≡ taken.Nothing → held.has x.key m ≡ false → Case c x m
+  case_new : held.lookup x.key m ≡ None → held.has x.key m ≡ false → Case c x m
   unfolding held.placing value_of
   case_new b h = go (dec_lt (length m) c)
     where
       missing : has x.key (items m) ≡ false
       missing = has_items x.key m ∙ h
 
-      nothing : value_of x.key (items m) ≡ found.Nothing
+      nothing : value_of x.key (items m) ≡ None
       nothing = ap value_in (lookup_items x.key m ∙ ap taking b)
 
       go : Dec (length m < c) → Case c x m
@@ -132,83 +118,77 @@ case_of ws m x is = go (laws.keyed ws m x.key)
     go (laws.held s r a b h) = case_over m.capacity x (map.model_of ws m) r (omega (arith, putting.model_length ws m, is.count)) b h
     go (laws.absent a b h) = case_new m.capacity x (map.model_of ws m) b h
 
-module _ (ws : List ℕ) (l : FastLru) (x : Record) (ws' : List ℕ) (p : Put) (pt : Putting ws l.map x ws' p) where
+module _ (ws : List ℕ) (l : FastLru) (x : Record) (ws' : List ℕ) where
   abbrev The : Type 0
   The = Case l.map.capacity x (map.model_of ws l.map)
 
   the : IsMap ws l.map → The
   the is = case_of ws l.map x is
 
-  -- not the full case: the map's model is the list's
-  put_in_lem : (p.answer ≡ placed.Full → ⊥) → IsMap ws l.map → model_of ws' (record { map = p.map }) ≡ inserted l.map.capacity (item_of x) (model_of ws l)
+  pub placing_over : (m' : LinkedHashMap) (old : Record) → Putting ws l.map x ws' m' (Ok (Some old)) → Placing ws l x ws' (record { map = m' }) (Some old.first)
   unfolding model_of
-  put_in_lem room is = ap items (pt.model is) ∙ go (the is)
-    where
-      go : The → items (held.put l.map.capacity x (map.model_of ws l.map)) ≡ inserted l.map.capacity (item_of x) (items (map.model_of ws l.map))
-      go (over r e v m) = m
-      go (new e v m) = m
-      go (full e v h f) = absurd (room (pt.answer is ∙ e))
-
-  pub placing_over : (old : Record) → p.answer ≡ placed.Replaced old → Placing ws l x ws' (record { lru = record { map = p.map }; answer = found.Value old.first })
-  unfolding model_of
-  placing_over old q = record {
-    never = λ why e. let z : ◌≡◌ {A = ℕ} 0 1 = cc in omega arith;
-    answer = λ is. go is (the is);
-    capacity = pt.capacity;
-    map = pt.map;
-    model = put_in_lem (λ e. let z : ◌≡◌ {A = ℕ} 0 1 = cc in omega arith);
-    kept = pt.kept;
+  placing_over m' old p = record {
+    answer = λ is. value is (the is);
+    capacity = p.capacity;
+    map = p.map;
+    model = λ is. ap items (p.model is) ∙ left is (the is);
+    kept = p.kept;
   }
     where
-      go : IsMap ws l.map → The → found.Value old.first ≡ value_of x.key (items (map.model_of ws l.map))
-      go is (over r e v m) = let same : old ≡ r = cc (pt.answer is) in ap (λ (y : Record). found.Value y.first) same ∙ sym v
-      go is (new e v m) = absurd (let z : ◌≡◌ {A = ℕ} 0 1 = cc (pt.answer is) in omega arith)
-      go is (full e v h f) = absurd (let z : ◌≡◌ {A = ℕ} 0 1 = cc (pt.answer is) in omega arith)
+      value : IsMap ws l.map → The → Some old.first ≡ value_of x.key (items (map.model_of ws l.map))
+      value is (over r e v m) = let same : old ≡ r = cc (p.answer is) in ap (λ (y : Record). Some y.first) same ∙ sym v
+      value is (new e v m) = cc (p.answer is)
+      value is (full e v h f) = cc (p.answer is)
 
-  -- no old value
-  none_old : ((r : Record) → p.answer ≡ placed.Replaced r → ⊥) → IsMap ws l.map → found.Nothing ≡ value_of x.key (model_of ws l)
+      left : IsMap ws l.map → The → items (held.put l.map.capacity x (map.model_of ws l.map)) ≡ inserted l.map.capacity (item_of x) (items (map.model_of ws l.map))
+      left is (over r e v m) = m
+      left is (new e v m) = m
+      left is (full e v h f) = cc (p.answer is)
+
+  pub placing_new : (m' : LinkedHashMap) → Putting ws l.map x ws' m' (Ok None) → Placing ws l x ws' (record { map = m' }) None
   unfolding model_of
-  none_old fresh is = go (the is)
-    where
-      go : The → found.Nothing ≡ value_of x.key (items (map.model_of ws l.map))
-      go (over r e v m) = absurd (fresh r (pt.answer is ∙ e))
-      go (new e v m) = sym v
-      go (full e v h f) = sym v
-
-  pub placing_new : p.answer ≡ placed.Inserted → Placing ws l x ws' (record { lru = record { map = p.map }; answer = found.Nothing })
-  placing_new q = record {
-    never = λ why e. let z : ◌≡◌ {A = ℕ} 0 1 = cc in omega arith;
-    answer = none_old (λ r e. let z : ◌≡◌ {A = ℕ} 0 1 = cc in omega arith);
-    capacity = pt.capacity;
-    map = pt.map;
-    model = put_in_lem (λ e. let z : ◌≡◌ {A = ℕ} 0 1 = cc in omega arith);
-    kept = pt.kept;
-  }
-
-  -- the map changed nothing, so the eviction starts from the list
-  pub placing_evicting : (ws'' : List ℕ) (r : FastLru) → p.answer ≡ placed.Full → PlacingFull ws' l x ws'' r → Placing ws l x ws'' (record { lru = r; answer = found.Nothing })
-  unfolding model_of
-  placing_evicting ws'' r q pf = record {
-    never = λ why e. let z : ◌≡◌ {A = ℕ} 0 1 = cc in omega arith;
-    answer = none_old (λ o e. let z : ◌≡◌ {A = ℕ} 0 1 = cc in omega arith);
-    capacity = from.capacity;
-    map = from.map;
-    model = λ is. go is (the is);
-    kept = from.kept;
+  placing_new m' p = record {
+    answer = λ is. value is (the is);
+    capacity = p.capacity;
+    map = p.map;
+    model = λ is. ap items (p.model is) ∙ left is (the is);
+    kept = p.kept;
   }
     where
-      from : PlacingFull ws l x ws'' r
-      from = rw (pt.full q).1 at pf
+      value : IsMap ws l.map → The → None ≡ value_of x.key (items (map.model_of ws l.map))
+      value is (over r e v m) = cc (p.answer is)
+      value is (new e v m) = sym v
+      value is (full e v h f) = sym v
 
-      go : IsMap ws l.map → The → items (map.model_of ws'' r.map) ≡ inserted l.map.capacity (item_of x) (items (map.model_of ws l.map))
-      go is (over o e v m) = absurd (let z : ◌≡◌ {A = ℕ} 0 1 = cc (pt.answer is) in omega arith)
-      go is (new e v m) = absurd (let z : ◌≡◌ {A = ℕ} 0 1 = cc (pt.answer is) in omega arith)
-      go is (full e v h f) = from.model is h f
+      left : IsMap ws l.map → The → items (held.put l.map.capacity x (map.model_of ws l.map)) ≡ inserted l.map.capacity (item_of x) (items (map.model_of ws l.map))
+      left is (over r e v m) = m
+      left is (new e v m) = m
+      left is (full e v h f) = cc (p.answer is)
+
+  -- the map says that it is full, so the eviction starts from the list
+  pub placing_evicting : (r : FastLru) → Putting ws l.map x ws l.map (Err failed.Full) → PlacingFull ws l x ws' r → Placing ws l x ws' r None
+  unfolding model_of
+  placing_evicting r p e = record {
+    answer = λ is. value is (the is);
+    capacity = e.capacity;
+    map = e.map;
+    model = λ is. left is (the is);
+    kept = e.kept;
+  }
+    where
+      value : IsMap ws l.map → The → None ≡ value_of x.key (items (map.model_of ws l.map))
+      value is (over y q v m) = cc (p.answer is)
+      value is (new q v m) = sym v
+      value is (full q v h f) = sym v
+
+      left : IsMap ws l.map → The → items (map.model_of ws' r.map) ≡ inserted l.map.capacity (item_of x) (items (map.model_of ws l.map))
+      left is (over y q v m) = cc (p.answer is)
+      left is (new q v m) = cc (p.answer is)
+      left is (full q v h f) = e.model is h f
 
 -- no map
-pub placing_none : (ws : List ℕ) (l : FastLru) (x : Record) → (IsMap ws l.map → ⊥) → Placing ws l x ws (record { lru = l; answer = found.Nothing })
+pub placing_none : (ws : List ℕ) (l : FastLru) (x : Record) → (IsMap ws l.map → ⊥) → Placing ws l x ws l None
 placing_none ws l x never-map = record {
-  never = λ why e. let z : ◌≡◌ {A = ℕ} 0 1 = cc in omega arith;
   answer = λ is. absurd (never-map is);
   capacity = refl;
   map = λ is. is;

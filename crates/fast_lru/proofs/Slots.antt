@@ -1,38 +1,30 @@
 -- The map's slots read as items: by their key, and by their place.
 use mathlib.Core.Path.{◌≡◌, refl, sym, ap, ◌∙◌}
 use mathlib.Core.List.{List}
-use mathlib.Core.Option.{none}
 use Prim.Native.Nat.{ℕ, ◌-◌, ◌<◌, ◌≤◌}
 use native.Mathlib.Decide.{dec_lt}
 use native.Mathlib.Omega.{arith}
 use lib.ListN.{length}
+use Rattle.std.specs.Prelude.{Option, Some, None, Result, is_some}
+use Rattle.std.specs.Result.{result_unwrap_or}
 use Rattle.linked_hash_map.specs.declared.map.Record.{Record}
-use Rattle.linked_hash_map.specs.declared.map.Slot.{Slot}
-use Rattle.linked_hash_map.specs.declared.map.Slot.TheVariants as slot
-use Rattle.linked_hash_map.specs.declared.map.Taken.{Taken}
-use Rattle.linked_hash_map.specs.declared.map.Taken.TheVariants as taken
+use Rattle.linked_hash_map.specs.declared.map.Unfit.{Unfit}
 use Rattle.linked_hash_map.specs.Model as held
-use Rattle.linked_hash_map.specs.Map.{slot_of, slot_at}
+use Rattle.linked_hash_map.specs.Map.{IsMap, slot_of, slot_at}
 use Rattle.linked_hash_map.specs.Map as map
-use Rattle.linked_hash_map.specs.Calls.{Reading, Ending}
+use Rattle.linked_hash_map.specs.Calls as calls
 use Rattle.linked_hash_map.proofs.Laws as laws
 use Rattle.linked_hash_map.proofs.Putting as putting
 use Rattle.fast_lru.specs.declared.lru.FastLru.{FastLru}
-use Rattle.fast_lru_model.specs.declared.answers.Found.TheVariants as found
-use Rattle.fast_lru_model.specs.declared.answers.Oldest.{Oldest}
-use Rattle.fast_lru_model.specs.declared.answers.Oldest.TheVariants as oldest
 use Rattle.fast_lru_model.specs.Model.{has, value_in, item_in, value_of, victim, oldest_of, Distinct}
 use Rattle.fast_lru.specs.Lru.{model_of}
-use Rattle.fast_lru.specs.Steps.{nth, taking, is_at, ValueAt, ItemAt, Picking, Choosing}
+use Rattle.fast_lru.specs.Steps.{nth, taking, ValueAt, Picking, Choosing}
 use Rattle.fast_lru.proofs.Items.{length_items, lookup_items, has_items, nth_items, distinct_items}
 use Rattle.fast_lru.proofs.Lists.{nth_past, last_nth}
 
--- what is no slot
-pub nothing_bare : {x : Slot} → x ≡ slot.Nothing → (s : ℕ) → x ≡ slot.At s → ⊥
-nothing_bare p s q = let z : ◌≡◌ {A = ℕ} 0 1 = cc in omega arith
-
-pub refused_bare : {x : Slot} → x ≡ slot.Refused → (s : ℕ) → x ≡ slot.At s → ⊥
-refused_bare p s q = let z : ◌≡◌ {A = ℕ} 0 1 = cc in omega arith
+-- the slot in what the map answers: where it refuses, none
+abbrev pub slot_in : Result (Option ℕ) Unfit → Option ℕ
+slot_in r = result_unwrap_or r None
 
 module _ (ws : List ℕ) (l : FastLru) where
   -- the model has as many items as the numbers say
@@ -40,86 +32,76 @@ module _ (ws : List ℕ) (l : FastLru) where
   unfolding model_of
   model_length = length_items (map.model_of ws l.map) ∙ putting.model_length ws l.map
 
-  pub model_distinct : map.IsMap ws l.map → Distinct (model_of ws l)
+  pub model_distinct : IsMap ws l.map → Distinct (model_of ws l)
   unfolding model_of
   model_distinct is = distinct_items (map.model_of ws l.map) (laws.map_distinct is)
 
-  pub key_value : (k : ℕ) (t : Taken) → held.lookup k (map.model_of ws l.map) ≡ t → value_of k (model_of ws l) ≡ value_in (taking t)
+  pub key_value : (k : ℕ) (o : Option Record) → held.lookup k (map.model_of ws l.map) ≡ o → value_of k (model_of ws l) ≡ value_in (taking o)
   unfolding value_of model_of
-  key_value k t e = ap value_in (lookup_items k (map.model_of ws l.map) ∙ ap taking e)
+  key_value k o e = ap value_in (lookup_items k (map.model_of ws l.map) ∙ ap taking e)
 
-  pub place_item : (i : ℕ) (t : Taken) → held.nth i (map.model_of ws l.map) ≡ t → nth i (model_of ws l) ≡ taking t
+  pub place_item : (i : ℕ) (o : Option Record) → held.nth i (map.model_of ws l.map) ≡ o → nth i (model_of ws l) ≡ taking o
   unfolding model_of
-  place_item i t e = nth_items i (map.model_of ws l.map) ∙ ap taking e
+  place_item i o e = nth_items i (map.model_of ws l.map) ∙ ap taking e
 
   -- a key has a slot exactly where it has an item
-  pub has_slot : (k : ℕ) → has k (model_of ws l) ≡ is_at (slot_of ws l.map k)
+  pub has_slot : (k : ℕ) → has k (model_of ws l) ≡ is_some (slot_of ws l.map k)
   unfolding model_of
   has_slot k = has_items k (map.model_of ws l.map) ∙ go (laws.keyed ws l.map k)
     where
-      go : laws.Keyed ws l.map k → held.has k (map.model_of ws l.map) ≡ is_at (slot_of ws l.map k)
-      go (laws.held s r a b h) = h ∙ ap is_at (sym a)
-      go (laws.absent a b h) = h ∙ ap is_at (sym a)
+      go : laws.Keyed ws l.map k → held.has k (map.model_of ws l.map) ≡ is_some (slot_of ws l.map k)
+      go (laws.held s r a b h) = h ∙ ap is_some (sym a)
+      go (laws.absent a b h) = h ∙ ap is_some (sym a)
 
-  key_none : (k : ℕ) (x : Slot) → ((s : ℕ) → x ≡ slot.At s → ⊥) → slot_of ws l.map k ≡ x → value_of k (model_of ws l) ≡ found.Nothing
-  key_none k x bare e = go (laws.keyed ws l.map k)
+  key_none : (k : ℕ) → slot_of ws l.map k ≡ None → value_of k (model_of ws l) ≡ None
+  key_none k e = go (laws.keyed ws l.map k)
     where
-      go : laws.Keyed ws l.map k → value_of k (model_of ws l) ≡ found.Nothing
-      go (laws.held s r a b h) = absurd (bare s (sym e ∙ a))
-      go (laws.absent a b h) = key_value k taken.Nothing b
+      go : laws.Keyed ws l.map k → value_of k (model_of ws l) ≡ None
+      go (laws.held s r a b h) = cc
+      go (laws.absent a b h) = key_value k None b
 
   -- a place with no slot has no item
-  pub place_past : (i : ℕ) (x : Slot) → ((s : ℕ) → x ≡ slot.At s → ⊥) → slot_at ws l.map i ≡ x → l.map.len ≤ i
-  place_past i x bare e = go (dec_lt i l.map.len)
+  pub place_past : (i : ℕ) → slot_at ws l.map i ≡ None → l.map.len ≤ i
+  place_past i e = go (dec_lt i l.map.len)
     where
       go : Dec (i < l.map.len) → l.map.len ≤ i
-      go (yes h) = absurd (bare _ (sym e ∙ laws.place_taken ws l.map i h))
+      go (yes h) = cc (laws.place_taken ws l.map i h)
       go (no h) = omega arith
 
-  place_none : (i : ℕ) (x : Slot) → ((s : ℕ) → x ≡ slot.At s → ⊥) → slot_at ws l.map i ≡ x → nth i (model_of ws l) ≡ none
-  place_none i x bare e = nth_past i (model_of ws l) (omega (arith, place_past i x bare e, model_length))
+  pub place_none : (i : ℕ) → slot_at ws l.map i ≡ None → nth i (model_of ws l) ≡ None
+  place_none i e = nth_past i (model_of ws l) (omega (arith, place_past i e, model_length))
 
-  -- ---- `value_at`, `item_at`
-  module _ (x : Slot) where
-    pub value_at : (s : ℕ) (r : Record) → x ≡ slot.At s → Reading ws l.map s r → ValueAt ws l x (found.Value r.first)
-    value_at s r q h = record {
-      never = λ why e. let z : ◌≡◌ {A = ℕ} 0 1 = cc in omega arith;
-      nothing = λ e. absurd (let z : ◌≡◌ {A = ℕ} 0 1 = cc in omega arith);
-      keyed = λ is k e. sym (key_value k (taken.Record r) (h.keyed is k (e ∙ q)));
-      placed = λ is i e. ap value_in (sym (place_item i (taken.Record r) (h.placed is i (e ∙ q))));
-    }
+  -- ---- `value_at`
+  pub value_at : (s : ℕ) (r : Record) → calls.Reading ws l.map s r → ValueAt ws l (Some s) (Some r.first)
+  value_at s r h = record {
+    nothing = λ e. cc;
+    keyed = λ is k e. sym (key_value k (Some r) (h.keyed is k e));
+    placed = λ is i e. ap value_in (sym (place_item i (Some r) (h.placed is i e)));
+  }
 
-    pub value_at_none : ((s : ℕ) → x ≡ slot.At s → ⊥) → ValueAt ws l x found.Nothing
-    value_at_none bare = record {
-      never = λ why e. let z : ◌≡◌ {A = ℕ} 0 1 = cc in omega arith;
-      nothing = λ e. refl;
-      keyed = λ is k e. sym (key_none k x bare e);
-      placed = λ is i e. ap value_in (sym (place_none i x bare e));
-    }
+  pub value_at_none : ValueAt ws l None None
+  value_at_none = record {
+    nothing = λ e. refl;
+    keyed = λ is k e. sym (key_none k e);
+    placed = λ is i e. ap value_in (sym (place_none i e));
+  }
 
-    pub item_at : (s : ℕ) (r : Record) → x ≡ slot.At s → Reading ws l.map s r → ItemAt ws l x (oldest.Item r.key r.first)
-    item_at s r q h = record {
-      never = λ why e. let z : ◌≡◌ {A = ℕ} 0 1 = cc in omega arith;
-      placed = λ is i e. ap item_in (sym (place_item i (taken.Record r) (h.placed is i (e ∙ q))));
-    }
+  -- ---- `oldest`, `victim`
+  -- the last place is that of the last item
+  oldest_at : oldest_of (model_of ws l) ≡ item_in (nth (l.map.len - 1) (model_of ws l))
+  unfolding oldest_of
+  oldest_at = ap item_in (last_nth (model_of ws l)) ∙ ap (λ (n : ℕ). item_in (nth (n - 1) (model_of ws l))) model_length
 
-    pub item_at_none : ((s : ℕ) → x ≡ slot.At s → ⊥) → ItemAt ws l x oldest.Nothing
-    item_at_none bare = record {
-      never = λ why e. let z : ◌≡◌ {A = ℕ} 0 1 = cc in omega arith;
-      placed = λ is i e. ap item_in (sym (place_none i x bare e));
-    }
+  module _ (x : Result (Option ℕ) Unfit) (end : calls.Ending ws l.map (l.map.len - 1) x) where
+    last_slot : IsMap ws l.map → slot_at ws l.map (l.map.len - 1) ≡ slot_in x
+    last_slot is = ap slot_in (sym (end.answer is))
 
-    -- ---- `oldest`, `victim`
-    pub picking : (r : Oldest) → Ending ws l.map (l.map.len - 1) x → ItemAt ws l x r → Picking ws l r
-    unfolding oldest_of
-    picking r end it = record {
-      never = it.never;
-      answer = λ is.
-          it.placed is (l.map.len - 1) (sym (end.answer is))
-          ∙ ap (λ (n : ℕ). item_in (nth (n - 1) (model_of ws l))) (sym model_length)
-          ∙ ap item_in (sym (last_nth (model_of ws l)));
-    }
+    pub picking : (s : ℕ) (r : Record) → slot_in x ≡ Some s → calls.Reading ws l.map s r → Picking ws l (Some (r.key, r.first))
+    picking s r e h = record { answer = λ is. sym (oldest_at ∙ ap item_in (place_item (l.map.len - 1) (Some r) (h.placed is (l.map.len - 1) (last_slot is ∙ e)))) }
 
-  pub choosing : (r : Oldest) → Picking ws l r → Choosing ws l r
+    pub picking_none : slot_in x ≡ None → Picking ws l None
+    picking_none e = record { answer = λ is. sym (oldest_at ∙ ap item_in (place_none (l.map.len - 1) (last_slot is ∙ e))) }
+
+  pub choosing : (r : Option (ℕ × ℕ)) → Picking ws l r → Choosing ws l r
   unfolding victim oldest_of
   choosing r p = record { answer = p.answer }

@@ -1,140 +1,98 @@
--- What each call promises. In this order: when it is refused, and that nothing else is; then, on a list, its answer and
--- the list after it; and what it keeps on any words.
-use Rattle.std.specs.Prelude.{◌≡◌, Bool, true, List, [], ℕ, eqb, length}
+-- What each call promises. A call is refused as its numbers and words say, and not otherwise; a refused one changes nothing. On a list it
+-- answers and leaves what the model's functions say. Whatever the words, it keeps the capacity, and the words past the list's own.
+use Rattle.std.specs.Prelude.{◌≡◌, Bool, true, List, [], ℕ, eqb, length, Option, Result, Ok, Err, ⊤}
 use Rattle.time.specs.declared.refusal.Refusal.{Refusal}
-use Rattle.time.specs.declared.refusal.Outcome.TheVariants.{Done, Refused}
 use Rattle.limits.specs.Limits.{list_limits}
 use Rattle.fast_lru.specs.declared.lru.FastLru.{FastLru}
-use Rattle.fast_lru_model.specs.declared.answers.Found.{Found}
-use Rattle.fast_lru_model.specs.declared.answers.Found.TheVariants as found
-use Rattle.fast_lru_model.specs.declared.answers.Oldest.{Oldest}
-use Rattle.fast_lru_model.specs.declared.answers.Oldest.TheVariants as oldest
-use Rattle.fast_lru_model.specs.declared.answers.Rank.TheVariants as rank
-use Rattle.fast_lru_model.specs.declared.answers.Told.{Told}
-use Rattle.fast_lru_model.specs.declared.answers.Told.TheVariants as told
-use Rattle.fast_lru_model.specs.declared.answers.Count.{Count}
-use Rattle.fast_lru_model.specs.declared.answers.Count.TheVariants as count
-use Rattle.fast_lru.specs.declared.answers.Opened.{Opened}
-use Rattle.fast_lru.specs.declared.answers.Got.{Got}
-use Rattle.fast_lru.specs.declared.answers.Popped.{Popped}
-use Rattle.fast_lru.specs.declared.answers.Touched.{Touched}
-use Rattle.fast_lru.specs.declared.answers.Ranked.{Ranked}
-use Rattle.fast_lru.specs.Refusals.{blank, admitted}
-use Rattle.fast_lru_model.specs.Model.{Item, has, without, tell, value_of, to_front, inserted, oldest_of, popped, rank_of}
+use Rattle.fast_lru.specs.Refusals.{admitted}
+use Rattle.fast_lru_model.specs.Model.{Item, Items, has, without, value_of, to_front, inserted, oldest_of, popped, rank_of}
 use Rattle.fast_lru.specs.Lru.{IsList, model_of, Kept}
 
--- `new`: the empty list, whatever the words held
-pub record Opening (ws : List ℕ) (c : ℕ) (ws' : List ℕ) (r : Opened) : Type 0 where
-  pub refused : (why : Refusal) → list_limits c (length ws) ≡ Refused why → (r ≡ record { lru = blank; answer = Refused why }) × (ws' ≡ ws)
-  pub answer : r.answer ≡ list_limits c (length ws)
-  pub capacity : list_limits c (length ws) ≡ Done → r.lru.map.capacity ≡ c
-  pub list : list_limits c (length ws) ≡ Done → IsList ws' r.lru
-  pub model : list_limits c (length ws) ≡ Done → model_of ws' r.lru ≡ []
+-- a call that changes nothing, and what it answers on a list
+pub record Asking {A : Type 0} (ws : List ℕ) (l : FastLru) (answer_of : Items → A) (r : Result A Refusal) : Type 0 where
+  pub refused : (why : Refusal) → admitted l (length ws) ≡ Err why → r ≡ Err why
+  pub only : (why : Refusal) → r ≡ Err why → admitted l (length ws) ≡ Err why
+  pub answer : IsList ws l → r ≡ Ok (answer_of (model_of ws l))
+
+-- a call that may change the list: what it answers on one, and which model it leaves
+pub record Changing {A : Type 0} (ws : List ℕ) (l : FastLru) (answer_of : Items → A) (left_of : Items → Items) (ws' : List ℕ) (l' : FastLru) (r : Result A Refusal) : Type 0 where
+  pub refused : (why : Refusal) → admitted l (length ws) ≡ Err why → (r ≡ Err why) × (l' ≡ l) × (ws' ≡ ws)
+  pub only : (why : Refusal) → r ≡ Err why → admitted l (length ws) ≡ Err why
+  pub answer : IsList ws l → r ≡ Ok (answer_of (model_of ws l))
+  pub capacity : l'.map.capacity ≡ l.map.capacity
+  pub list : IsList ws l → IsList ws' l'
+  pub model : IsList ws l → model_of ws' l' ≡ left_of (model_of ws l)
+  pub kept : Kept l.map.capacity ws ws'
+
+-- ---- `new`: the empty list, whatever the words held
+pub record IsNew (c : ℕ) (ws' : List ℕ) (l : FastLru) : Type 0 where
+  pub capacity : l.map.capacity ≡ c
+  pub list : IsList ws' l
+  pub model : model_of ws' l ≡ []
+
+pub record Opening (ws : List ℕ) (c : ℕ) (ws' : List ℕ) (r : Result FastLru Refusal) : Type 0 where
+  pub refused : (why : Refusal) → list_limits c (length ws) ≡ Err why → (r ≡ Err why) × (ws' ≡ ws)
+  pub only : (why : Refusal) → r ≡ Err why → list_limits c (length ws) ≡ Err why
+  pub opened : (l : FastLru) → r ≡ Ok l → IsNew c ws' l
   pub kept : Kept c ws ws'
 
--- `clear`: the empty list of the same capacity. Words that are no list need not become one: that is what `new` does.
-pub record Clearing (ws : List ℕ) (l : FastLru) (ws' : List ℕ) (r : Opened) : Type 0 where
-  pub refused : (why : Refusal) → admitted l (length ws) ≡ Refused why → (r ≡ record { lru = l; answer = Refused why }) × (ws' ≡ ws)
-  pub answer : r.answer ≡ admitted l (length ws)
-  pub capacity : r.lru.map.capacity ≡ l.map.capacity
-  pub list : IsList ws l → IsList ws' r.lru
-  pub model : IsList ws l → model_of ws' r.lru ≡ []
-  pub kept : Kept l.map.capacity ws ws'
-
+-- ---- the calls that change nothing
 -- `len`
-pub record Length (ws : List ℕ) (l : FastLru) (r : Count) : Type 0 where
-  pub refused : (why : Refusal) → admitted l (length ws) ≡ Refused why → r ≡ count.Refused why
-  pub only : (why : Refusal) → r ≡ count.Refused why → admitted l (length ws) ≡ Refused why
-  pub answer : IsList ws l → r ≡ count.Number (length (model_of ws l))
+abbrev pub Length : List ℕ → FastLru → Result ℕ Refusal → Type 0
+Length ws l r = Asking ws l (λ m. length m) r
 
 -- `is_empty`
-pub record Emptiness (ws : List ℕ) (l : FastLru) (r : Told) : Type 0 where
-  pub refused : (why : Refusal) → admitted l (length ws) ≡ Refused why → r ≡ told.Refused why
-  pub only : (why : Refusal) → r ≡ told.Refused why → admitted l (length ws) ≡ Refused why
-  pub answer : IsList ws l → r ≡ tell (eqb (length (model_of ws l)) 0)
+abbrev pub Emptiness : List ℕ → FastLru → Result Bool Refusal → Type 0
+Emptiness ws l r = Asking ws l (λ m. eqb (length m) 0) r
 
--- `capacity`
-pub record Capacity (ws : List ℕ) (l : FastLru) (r : Count) : Type 0 where
-  pub refused : (why : Refusal) → admitted l (length ws) ≡ Refused why → r ≡ count.Refused why
-  pub only : (why : Refusal) → r ≡ count.Refused why → admitted l (length ws) ≡ Refused why
-  pub answer : admitted l (length ws) ≡ Done → r ≡ count.Number l.map.capacity
+-- `capacity`: of any words and numbers that are not refused
+pub record Capacity (ws : List ℕ) (l : FastLru) (r : Result ℕ Refusal) : Type 0 where
+  pub refused : (why : Refusal) → admitted l (length ws) ≡ Err why → r ≡ Err why
+  pub only : (why : Refusal) → r ≡ Err why → admitted l (length ws) ≡ Err why
+  pub answer : admitted l (length ws) ≡ Ok tt → r ≡ Ok l.map.capacity
 
 -- `contains`
-pub record Containing (ws : List ℕ) (l : FastLru) (k : ℕ) (r : Told) : Type 0 where
-  pub refused : (why : Refusal) → admitted l (length ws) ≡ Refused why → r ≡ told.Refused why
-  pub only : (why : Refusal) → r ≡ told.Refused why → admitted l (length ws) ≡ Refused why
-  pub answer : IsList ws l → r ≡ tell (has k (model_of ws l))
-
--- `get`
-pub record Getting (ws : List ℕ) (l : FastLru) (k : ℕ) (ws' : List ℕ) (r : Got) : Type 0 where
-  pub refused : (why : Refusal) → admitted l (length ws) ≡ Refused why → (r ≡ record { lru = l; answer = found.Refused why }) × (ws' ≡ ws)
-  pub only : (why : Refusal) → r.answer ≡ found.Refused why → admitted l (length ws) ≡ Refused why
-  pub answer : IsList ws l → r.answer ≡ value_of k (model_of ws l)
-  pub capacity : r.lru.map.capacity ≡ l.map.capacity
-  pub list : IsList ws l → IsList ws' r.lru
-  pub model : IsList ws l → model_of ws' r.lru ≡ to_front k (model_of ws l)
-  pub kept : Kept l.map.capacity ws ws'
+abbrev pub Containing : List ℕ → FastLru → ℕ → Result Bool Refusal → Type 0
+Containing ws l k r = Asking ws l (has k) r
 
 -- `peek`
-pub record Peeking (ws : List ℕ) (l : FastLru) (k : ℕ) (r : Found) : Type 0 where
-  pub refused : (why : Refusal) → admitted l (length ws) ≡ Refused why → r ≡ found.Refused why
-  pub only : (why : Refusal) → r ≡ found.Refused why → admitted l (length ws) ≡ Refused why
-  pub answer : IsList ws l → r ≡ value_of k (model_of ws l)
-
--- `insert`
-pub record Inserting (ws : List ℕ) (l : FastLru) (i : Item) (ws' : List ℕ) (r : Got) : Type 0 where
-  pub refused : (why : Refusal) → admitted l (length ws) ≡ Refused why → (r ≡ record { lru = l; answer = found.Refused why }) × (ws' ≡ ws)
-  pub only : (why : Refusal) → r.answer ≡ found.Refused why → admitted l (length ws) ≡ Refused why
-  pub answer : IsList ws l → r.answer ≡ value_of i.key (model_of ws l)
-  pub capacity : r.lru.map.capacity ≡ l.map.capacity
-  pub list : IsList ws l → IsList ws' r.lru
-  pub model : IsList ws l → model_of ws' r.lru ≡ inserted l.map.capacity i (model_of ws l)
-  pub kept : Kept l.map.capacity ws ws'
-
--- `remove`
-pub record Removing (ws : List ℕ) (l : FastLru) (k : ℕ) (ws' : List ℕ) (r : Got) : Type 0 where
-  pub refused : (why : Refusal) → admitted l (length ws) ≡ Refused why → (r ≡ record { lru = l; answer = found.Refused why }) × (ws' ≡ ws)
-  pub only : (why : Refusal) → r.answer ≡ found.Refused why → admitted l (length ws) ≡ Refused why
-  pub answer : IsList ws l → r.answer ≡ value_of k (model_of ws l)
-  pub capacity : r.lru.map.capacity ≡ l.map.capacity
-  pub list : IsList ws l → IsList ws' r.lru
-  pub model : IsList ws l → model_of ws' r.lru ≡ without k (model_of ws l)
-  pub kept : Kept l.map.capacity ws ws'
-
--- `pop_lru`
-pub record Popping (ws : List ℕ) (l : FastLru) (ws' : List ℕ) (r : Popped) : Type 0 where
-  pub refused : (why : Refusal) → admitted l (length ws) ≡ Refused why → (r ≡ record { lru = l; answer = oldest.Refused why }) × (ws' ≡ ws)
-  pub only : (why : Refusal) → r.answer ≡ oldest.Refused why → admitted l (length ws) ≡ Refused why
-  pub answer : IsList ws l → r.answer ≡ oldest_of (model_of ws l)
-  pub capacity : r.lru.map.capacity ≡ l.map.capacity
-  pub list : IsList ws l → IsList ws' r.lru
-  pub model : IsList ws l → model_of ws' r.lru ≡ popped (model_of ws l)
-  pub kept : Kept l.map.capacity ws ws'
+abbrev pub Peeking : List ℕ → FastLru → ℕ → Result (Option ℕ) Refusal → Type 0
+Peeking ws l k r = Asking ws l (value_of k) r
 
 -- `peek_lru`
-pub record PeekingOldest (ws : List ℕ) (l : FastLru) (r : Oldest) : Type 0 where
-  pub refused : (why : Refusal) → admitted l (length ws) ≡ Refused why → r ≡ oldest.Refused why
-  pub only : (why : Refusal) → r ≡ oldest.Refused why → admitted l (length ws) ≡ Refused why
-  pub answer : IsList ws l → r ≡ oldest_of (model_of ws l)
+abbrev pub PeekingOldest : List ℕ → FastLru → Result (Option (ℕ × ℕ)) Refusal → Type 0
+PeekingOldest ws l r = Asking ws l oldest_of r
 
--- `touch`
-pub record Touching (ws : List ℕ) (l : FastLru) (k : ℕ) (ws' : List ℕ) (r : Touched) : Type 0 where
-  pub refused : (why : Refusal) → admitted l (length ws) ≡ Refused why → (r ≡ record { lru = l; answer = told.Refused why }) × (ws' ≡ ws)
-  pub only : (why : Refusal) → r.answer ≡ told.Refused why → admitted l (length ws) ≡ Refused why
-  pub answer : IsList ws l → r.answer ≡ tell (has k (model_of ws l))
-  pub capacity : r.lru.map.capacity ≡ l.map.capacity
-  pub list : IsList ws l → IsList ws' r.lru
-  pub model : IsList ws l → model_of ws' r.lru ≡ to_front k (model_of ws l)
-  pub kept : Kept l.map.capacity ws ws'
-
--- `recency_rank`: it moves nothing, and hands the numbers back as they were
-pub record Ranking (ws : List ℕ) (l : FastLru) (k : ℕ) (r : Ranked) : Type 0 where
-  pub refused : (why : Refusal) → admitted l (length ws) ≡ Refused why → r ≡ record { lru = l; answer = rank.Refused why }
-  pub only : (why : Refusal) → r.answer ≡ rank.Refused why → admitted l (length ws) ≡ Refused why
-  pub answer : IsList ws l → r.answer ≡ rank_of k (model_of ws l)
-  pub numbers : r.lru ≡ l
+-- `recency_rank`
+abbrev pub Ranking : List ℕ → FastLru → ℕ → Result (Option ℕ) Refusal → Type 0
+Ranking ws l k r = Asking ws l (rank_of k) r
 
 -- `check`: yes exactly for a list
 pub record Checking (ws : List ℕ) (l : FastLru) (r : Bool) : Type 0 where
   pub sound : r ≡ true → IsList ws l
   pub complete : IsList ws l → r ≡ true
+
+-- ---- the calls that may change the list
+-- `clear`: words that are no list need not become one: that is what `new` does
+abbrev pub Clearing : List ℕ → FastLru → List ℕ → FastLru → Result ⊤ Refusal → Type 0
+Clearing ws l ws' l' r = Changing {A = ⊤} ws l (λ m. tt) (λ m. []) ws' l' r
+
+-- `get`
+abbrev pub Getting : List ℕ → FastLru → ℕ → List ℕ → FastLru → Result (Option ℕ) Refusal → Type 0
+Getting ws l k ws' l' r = Changing ws l (value_of k) (to_front k) ws' l' r
+
+-- `insert`
+abbrev pub Inserting : List ℕ → FastLru → Item → List ℕ → FastLru → Result (Option ℕ) Refusal → Type 0
+Inserting ws l i ws' l' r = Changing ws l (value_of i.key) (inserted l.map.capacity i) ws' l' r
+
+-- `remove`
+abbrev pub Removing : List ℕ → FastLru → ℕ → List ℕ → FastLru → Result (Option ℕ) Refusal → Type 0
+Removing ws l k ws' l' r = Changing ws l (value_of k) (without k) ws' l' r
+
+-- `pop_lru`
+abbrev pub Popping : List ℕ → FastLru → List ℕ → FastLru → Result (Option (ℕ × ℕ)) Refusal → Type 0
+Popping ws l ws' l' r = Changing ws l oldest_of popped ws' l' r
+
+-- `touch`
+abbrev pub Touching : List ℕ → FastLru → ℕ → List ℕ → FastLru → Result Bool Refusal → Type 0
+Touching ws l k ws' l' r = Changing ws l (has k) (to_front k) ws' l' r

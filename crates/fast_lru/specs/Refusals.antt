@@ -1,8 +1,7 @@
 -- Document 01, "Turned back": refusals 1 and 2, in this order. `new` is refused as `list_limits` says, and the other calls for numbers that
 -- are all 0 as well.
-use Rattle.std.specs.Prelude.{Bool, cond, ◌||◌, ◌&&◌, ℕ, ◌+◌, ◌*◌, eqb, ltb}
-use Rattle.time.specs.declared.refusal.Outcome.{Outcome}
-use Rattle.time.specs.declared.refusal.Outcome.TheVariants.{Refused}
+use Rattle.std.specs.Prelude.{Bool, cond, ◌||◌, ◌&&◌, ℕ, ◌+◌, ◌*◌, eqb, ltb, Result, Err, ⊤}
+use Rattle.time.specs.declared.refusal.Refusal.{Refusal}
 use Rattle.time.specs.declared.refusal.Refusal.TheVariants.{LimitOutOfRange}
 use Rattle.limits.specs.Limits.{list_limits}
 use Rattle.fast_lru.specs.declared.lru.FastLru.{FastLru}
@@ -11,10 +10,7 @@ use Rattle.fast_lru.specs.declared.lru.FastLru.{FastLru}
 abbrev pub words_for : ℕ → ℕ
 words_for c = 64 + 8 * c
 
--- the numbers that a refused `new` hands back
-abbrev pub blank : FastLru
-blank = record { map = record { capacity = 0; len = 0; refill_in = 0 } }
-
+-- the numbers that `default` makes
 abbrev is_blank : FastLru → Bool
 is_blank l = eqb l.map.capacity 0 && (eqb l.map.len 0 && eqb l.map.refill_in 0)
 
@@ -23,5 +19,5 @@ unfoldable pub out_of_range : FastLru → Bool
 out_of_range l = ltb 4096 l.map.capacity || is_blank l
 
 -- the refusal of any call but `new`, or none
-unfoldable pub admitted : FastLru → ℕ → Outcome
-admitted l size = cond (out_of_range l) (Refused LimitOutOfRange) (list_limits l.map.capacity size)
+unfoldable pub admitted : FastLru → ℕ → Result ⊤ Refusal
+admitted l size = cond (out_of_range l) (Err LimitOutOfRange) (list_limits l.map.capacity size)

@@ -10,13 +10,11 @@
 //
 // A list with room for c items, at most 4,096, takes 64 + 8 c words, and leaves those beyond alone. Any words and any
 // numbers may be handed to any call. Refusals 1 and 2 change nothing; on words and numbers that are no list, only they
-// may change.
+// may change. The numbers that `default` makes, all 0, are no list's: every call refuses them.
 //
 // The Rust beside it: docs/src/policy/fast_lru.rs.
 #![tactic(auto)]
 
-mod answers;
 mod lru;
 
-pub use answers::{Got, Opened, Popped, Ranked, Touched};
 pub use lru::FastLru;

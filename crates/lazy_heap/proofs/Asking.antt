@@ -10,28 +10,21 @@ use mathlib.Core.List.Memᴰ.{tail}
 use Prim.Native.Nat.{ℕ, ◌<◌}
 use native.Mathlib.Omega.{arith}
 use lib.ListN.{length}
-use borrow.Author.Tests.{eq-eqb, ne_eqb, lt-leb}
-use Rattle.limits.specs.Limits.{heap_limits}
+use borrow.Author.Tests.{lt-leb}
 use Rattle.binary_heap.specs.declared.entries.Entry.{Entry}
 use Rattle.binary_heap.specs.Order.{le, Sorted}
 use Rattle.binary_heap.proofs.Laws.{le_scores, count_mem, model_length as array-length}
 use Rattle.linked_hash_map.specs.declared.map.Record.{Record}
 use Rattle.linked_hash_map.proofs.Putting.{model_length}
-use Rattle.time.specs.declared.refusal.Refusal.{Refusal}
-use Rattle.time.specs.declared.refusal.Outcome.TheVariants.{Done, Refused}
 use Rattle.lazy_heap.specs.declared.heap.LazyMinHeap.{LazyMinHeap}
-use Rattle.lazy_heap.specs.declared.heap.Number.TheVariants as number
-use Rattle.lazy_heap.specs.declared.heap.Flag.TheVariants as flag
 use Rattle.lazy_heap.specs.Words.{part}
-use Rattle.lazy_heap_model.specs.Model.{Heap, entry_of, len, heap_len, count_at_most, at_most}
+use Rattle.lazy_heap_model.specs.Model.{Heap, entry_of, count_at_most, at_most}
 use Rattle.lazy_heap.specs.Valid.{Valid}
 use Rattle.lazy_heap.specs.Heap.{model_of}
 use Rattle.lazy_heap.specs.Steps.{CountingEntries}
 use Rattle.lazy_heap.specs.Walks.{CountingWithin}
-use Rattle.lazy_heap.specs.Calls.{Asking, AskingEmpty}
 use Rattle.lazy_heap.proofs.Valid.{sorted_cons}
 use Rattle.lazy_heap.proofs.Own.{live_at_most}
-use Rattle.lazy_heap.proofs.Calling.{no_heap_lem}
 
 -- ---- no key holds at most a score
 -- where every key's is above it
@@ -56,29 +49,8 @@ module _ (m : Heap) (v : Valid m) (s : ℕ) where
       first : ((x : Entry) → Memᴰ x es → le e x ≡ true) × Sorted es
       first = sorted_cons e es (rw q at v.sorted)
 
--- ---- the answers
-module _ {ws : List ℕ} {h : LazyMinHeap} where
-  -- where there are as many entries as keys the entries tell
-  pub counting_entries : h.entries ≡ h.scores.len → {s r : ℕ} → CountingEntries ws h s r → CountingWithin ws h s r
-  counting_entries e {s} c = record {
-    answer = λ p v. c.answer p ∙ live_at_most (model_of ws h) v s (array-length (part h.scores.capacity ws) h.entries ∙ e ∙ sym (model_length ws h.scores));
-  }
-
-  pub asking_refused : {value : Heap → ℕ} {why : Refusal} → heap_limits h.scores.capacity (length ws) ≡ Refused why → Asking ws h value (number.Refused why)
-  asking_refused e = record { outcome = sym e; answer = λ is. absurd (no_heap_lem e is) }
-
-  module _ (t : heap_limits h.scores.capacity (length ws) ≡ Done) where
-    pub asking_value : {value : Heap → ℕ} {n : ℕ} → n ≡ value (model_of ws h) → Asking ws h value (number.Value n)
-    asking_value e = record { outcome = sym t; answer = λ is. ap number.Value e }
-
-    pub asking_len : Asking ws h len (number.Value h.scores.len)
-    asking_len = asking_value (sym (model_length ws h.scores))
-
-    pub asking_heap_len : Asking ws h heap_len (number.Value h.entries)
-    asking_heap_len = asking_value (sym (array-length (part h.scores.capacity ws) h.entries))
-
-    pub asking_yes : h.scores.len ≡ 0 → AskingEmpty ws h flag.Yes
-    asking_yes e = record { outcome = sym t; answer = λ is. sym (rw (eq-eqb (len (model_of ws h)) 0 (model_length ws h.scores ∙ e))) }
-
-    pub asking_no : (h.scores.len ≡ 0 → ⊥) → AskingEmpty ws h flag.No
-    asking_no d = record { outcome = sym t; answer = λ is. sym (rw (ne_eqb (len (model_of ws h)) 0 (λ e. d (sym (model_length ws h.scores) ∙ e)))) }
+-- ---- where there are as many entries as keys the entries tell
+pub counting_entries : {ws : List ℕ} {h : LazyMinHeap} → h.entries ≡ h.scores.len → {s r : ℕ} → CountingEntries ws h s r → CountingWithin ws h s r
+counting_entries {ws} {h} e {s} c = record {
+  answer = λ p v. c.answer p ∙ live_at_most (model_of ws h) v s (array-length (part h.scores.capacity ws) h.entries ∙ e ∙ sym (model_length ws h.scores));
+}

@@ -1,97 +1,82 @@
 -- What the calls come to: refused, or a definition's answer on a heap, and a heap again.
 use mathlib.Core.Path.{◌≡◌, refl, sym, ap, ◌∙◌, subst}
-use mathlib.Core.Bool.{Bool, true, false, cond}
-use mathlib.Core.List.{List}
+use mathlib.Core.Bool.{Bool, true, false, true≢false, cond}
+use mathlib.Core.List.{List, []}
 use Prim.Native.Nat.{ℕ, ◌+◌, ◌-◌, ◌*◌, ◌≤◌}
 use native.Mathlib.Omega.{arith}
 use lib.ListN.{length}
 use borrow.Author.Tests.{eq-eqb, ne_eqb, lt-ltb, le-ltb, le-leb}
+use Rattle.std.specs.Prelude.{Option, Result, Ok, Err, IsOk, IsErr, IsErrAnd, is_err, ⊤}
+use Rattle.std.proofs.lemmas.Result.{IfOk-at_ok, err_from_is_err_and}
 use Rattle.limits.specs.Limits.{map_fits, heap_limits, heap_limits_with}
 use Rattle.rings.proofs.Counts.{by_lt}
 use Rattle.binary_heap.specs.Heap as array
 use Rattle.binary_heap.proofs.Laws.{heap_none, model_none}
 use Rattle.binary_heap.proofs.Laws.{model_length as array-length}
-use Rattle.linked_hash_map.specs.declared.map.Opened as mapOpened
-use Rattle.linked_hash_map.specs.declared.map.Removed.{Removed}
-use Rattle.linked_hash_map.specs.declared.map.Taken.{Taken}
-use Rattle.linked_hash_map.specs.declared.map.Taken.TheVariants as taken
+use Rattle.linked_hash_map.specs.declared.map.LinkedHashMap.{LinkedHashMap}
+use Rattle.linked_hash_map.specs.declared.map.Unfit.{Unfit}
+use Rattle.cells.specs.declared.Probe.{Probe}
+use Rattle.linked_hash_map.specs.Model.{lookup}
+use Rattle.linked_hash_map.specs.Map.{IsMap}
+use Rattle.linked_hash_map.specs.Map as map
 use Rattle.linked_hash_map.specs.Calls as scores
 use Rattle.time.specs.declared.refusal.Refusal.{Refusal}
-use Rattle.time.specs.declared.refusal.Refusal.TheVariants.{LimitOutOfRange, TooFewWords, FactorTooLarge}
-use Rattle.time.specs.declared.refusal.Outcome.{Outcome}
-use Rattle.time.specs.declared.refusal.Outcome.TheVariants.{Done, Refused}
 use Rattle.lazy_heap.specs.declared.heap.LazyMinHeap.{LazyMinHeap}
-use Rattle.lazy_heap.specs.declared.heap.Step.{Step}
-use Rattle.lazy_heap_model.specs.declared.scores.Score.{Score}
-use Rattle.lazy_heap.specs.Answers.{of_score}
 use Rattle.lazy_heap.specs.Words.{words_for, start, part, Room, Kept}
 use Rattle.lazy_heap_model.specs.Model.{Heap, at_least_one, surplus, too_many, held_score, opened, with_factor, removed, peeked, rebuilt, maybe_rebuilt, numbered, renumbered, cleared}
 use Rattle.lazy_heap.specs.Valid.{Valid}
 use Rattle.lazy_heap.specs.Heap.{model_of, Parts, IsHeap}
-use Rattle.lazy_heap.specs.Steps.{Rebuilding, Renumbering, Trimming}
-use Rattle.lazy_heap.specs.Calls.{Call, Opening, with_held, Removing, no_heap, nothing, maybe_discards}
+use Rattle.lazy_heap.specs.Steps.{Rebuilding, Renumbering, Trimming, TakingKey}
+use Rattle.lazy_heap.specs.Calls.{counted, Call, Discards, Opening, Resetting, RebuildingNow, RebuildingMaybe, RenumberingNow, Clearing, Asking, Removing, Besting}
 use Rattle.lazy_heap.proofs.Parts.{part_same}
 use Rattle.lazy_heap.proofs.Valid.{valid_opened, valid_rebuilt, valid_renumbered, valid_removed, valid_cleared, valid_peeked, live_length, numbered_length, from_length}
 use Rattle.lazy_heap.proofs.Stepping.{same_heap, same_capacity, surplus_is, kept_same, rebuilt_model}
 
 -- ---- refusals
-pub refused_done : (why : Refusal) → ◌≡◌ {A = Outcome} (Refused why) Done → ⊥
-refused_done why e = let z : ◌≡◌ {A = ℕ} 0 1 = cc in omega arith
-
-pub limits_room : (n l : ℕ) → heap_limits n l ≡ Done → Room l n
+pub limits_room : (n l : ℕ) → heap_limits n l ≡ Ok tt → Room l n
 unfolding heap_limits
 limits_room n l e =
     by_lt 0 n
-    (λ a. by_lt 4096 n (λ b. absurd (refused_done LimitOutOfRange (sym (rw (ne_eqb n 0 (λ q. omega arith), lt-ltb 4096 n b)) ∙ e))) (λ b. by_lt l (words_for n) (λ d. absurd (refused_done TooFewWords (sym (rw (ne_eqb n 0 (λ q. omega arith), le-ltb 4096 n b, lt-ltb l (words_for n) d)) ∙ e))) (λ d. record { some = omega arith; limit = b; words = d })))
-    (λ a. absurd (refused_done LimitOutOfRange (sym (rw (eq-eqb n 0 (omega arith))) ∙ e)))
+    (λ a. by_lt 4096 n (λ b. let no = rw (ne_eqb n 0 (λ q. omega arith), lt-ltb 4096 n b) at e in cc) (λ b. by_lt l (words_for n) (λ d. let no = rw (ne_eqb n 0 (λ q. omega arith), le-ltb 4096 n b, lt-ltb l (words_for n) d) at e in cc) (λ d. record { some = omega arith; limit = b; words = d })))
+    (λ a. let no = rw (eq-eqb n 0 (omega arith)) at e in cc)
 
-pub room_limits : {n l : ℕ} → Room l n → heap_limits n l ≡ Done
+pub room_limits : {n l : ℕ} → Room l n → heap_limits n l ≡ Ok tt
 unfolding heap_limits
 room_limits {n} {l} g = rw (ne_eqb n 0 (λ q. omega (arith, g.some)), le-ltb 4096 n g.limit, le-ltb l (words_for n) g.words)
 
-pub no_heap_lem : {ws : List ℕ} {h : LazyMinHeap} {why : Refusal} → heap_limits h.scores.capacity (length ws) ≡ Refused why → IsHeap ws h → ⊥
-no_heap_lem {ws} {h} {why} e is = refused_done why (sym e ∙ room_limits is.parts.room)
+pub no_heap : {ws : List ℕ} {h : LazyMinHeap} {why : Refusal} → heap_limits h.scores.capacity (length ws) ≡ Err why → IsHeap ws h → ⊥
+no_heap e is = let done = room_limits is.parts.room in cc
+
+-- the same of a test
+pub ok_room : (n l : ℕ) {o : Result ⊤ Refusal} → o ≡ heap_limits n l → is_err o ≡ false → Room l n
+ok_room n l {o = Ok t} e q = limits_room n l (sym e)
+ok_room n l {o = Err why} e q = absurd (true≢false q)
+
+pub err_no_heap : {ws : List ℕ} {h : LazyMinHeap} (o : Result ⊤ Refusal) → o ≡ heap_limits h.scores.capacity (length ws) → is_err o ≡ true → IsHeap ws h → ⊥
+err_no_heap (Ok t) e q is = true≢false (sym q)
+err_no_heap (Err why) e q is = no_heap (sym e) is
+
+-- the error that a call hands on
+pub handed_on : {A : Type 0} {r : Result A Refusal} {why : Refusal} → IsErr r × IsErrAnd r (λ e. e ≡ why) → r ≡ Err why
+handed_on {r = r} q = let s = err_from_is_err_and r q.1 in s.1 ∙ ap Err s.2
 
 module _ (n l f : ℕ) where
-  pub with_refused : {why : Refusal} → heap_limits n l ≡ Refused why → Refused why ≡ heap_limits_with n l f
+  pub with_refused : {why : Refusal} → heap_limits n l ≡ Err why → Err why ≡ heap_limits_with n l f
   unfolding heap_limits_with
   with_refused e = sym (rw e)
 
-  pub with_small : heap_limits n l ≡ Done → f ≤ 8 → Done ≡ heap_limits_with n l f
+  pub with_small : heap_limits n l ≡ Ok tt → f ≤ 8 → Ok tt ≡ heap_limits_with n l f
   unfolding heap_limits_with
   with_small e b = sym (rw (e, le-ltb 8 f b))
 
 -- no cause, nor one in the factor
-pub with_room_lem : (n l f : ℕ) → heap_limits_with n l f ≡ Done → Room l n × (f ≤ 8)
+pub with_room_lem : (n l f : ℕ) → heap_limits_with n l f ≡ Ok tt → Room l n × (f ≤ 8)
 unfolding heap_limits_with
 with_room_lem n l f e = go (heap_limits n l) refl e
   where
-    go : (o : Outcome) → heap_limits n l ≡ o → heap_limits_with n l f ≡ Done → Room l n × (f ≤ 8)
-    go (Refused why) q w = absurd (refused_done why (sym (rw q) ∙ w))
-    go Done q w = (limits_room n l q, by_lt 8 f (λ b. absurd (refused_done FactorTooLarge (sym (rw (q, lt-ltb 8 f b)) ∙ w))) (λ b. b))
-
-module _ {ws : List ℕ} {h : LazyMinHeap} {cause : Outcome} {next : Heap → Heap} {count : Heap → ℕ} where
-  pub call_refused : {why : Refusal} → cause ≡ Refused why → Call ws h cause (Refused why) next count ws h 0
-  call_refused {why} e = record {
-    outcome = sym e;
-    refused = λ w q. (refl, refl, refl);
-    heap = λ t. absurd (refused_done why t);
-    model = λ t. absurd (refused_done why t);
-    discarded = λ t. absurd (refused_done why t);
-    capacity = refl;
-    kept = kept_same h.scores.capacity ws;
-  }
-
-  pub call_done : {told : Outcome} {ws' : List ℕ} {h' : LazyMinHeap} {d : ℕ} → told ≡ Done → cause ≡ Done → (IsHeap ws h → IsHeap ws' h') → (IsHeap ws h → model_of ws' h' ≡ next (model_of ws h)) → (IsHeap ws h → d ≡ count (model_of ws h)) → h'.scores.capacity ≡ h.scores.capacity → Kept h.scores.capacity ws ws' → Call ws h cause told next count ws' h' d
-  call_done t e heap model discarded capacity kept = record {
-    outcome = t ∙ sym e;
-    refused = λ why q. absurd (refused_done why (sym q ∙ t));
-    heap = λ u. heap;
-    model = λ u. model;
-    discarded = λ u. discarded;
-    capacity = capacity;
-    kept = kept;
-  }
+    go : (o : Result ⊤ Refusal) → heap_limits n l ≡ o → heap_limits_with n l f ≡ Ok tt → Room l n × (f ≤ 8)
+    go (Err why) q w = let no = rw q at w in cc
+    go (Ok t) q w = (limits_room n l q, by_lt 8 f (λ b. let no = rw (q, lt-ltb 8 f b) at w in cc) (λ b. b))
 
 -- ---- a heap again
 -- what of a model is a heap's own
@@ -154,138 +139,179 @@ pub fair_peeked : {m : Heap} → Fair m → Fair (peeked m)
 unfolding peeked
 fair_peeked {m} f = record { valid = valid_peeked m f.valid; few = omega (arith, from_length m.held m.entries, f.few); factor = f.factor }
 
--- ---- all entries at once
-module _ {ws ws' : List ℕ} {h r : LazyMinHeap} (t : heap_limits h.scores.capacity (length ws) ≡ Done) where
-  pub rebuild_call : {d : ℕ} → Rebuilding ws h ws' r → d ≡ h.entries - h.scores.len → Call ws h (heap_limits h.scores.capacity (length ws)) Done rebuilt surplus ws' r d
-  rebuild_call k d = call_done refl t (λ is. heap_again (k.parts is.parts) (rebuilt_model k is.parts) (fair_rebuilt (fair_heap is))) (λ is. rebuilt_model k is.parts) (λ is. d ∙ sym (surplus_is ws h)) (same_capacity k.entered.scores) k.entered.kept
+-- ---- calls
+-- a call that asks is refused, or tells the value
+module _ {A : Type 0} {ws : List ℕ} {h : LazyMinHeap} {value : Heap → A} where
+  pub asking_refused : {why : Refusal} → heap_limits h.scores.capacity (length ws) ≡ Err why → Asking ws h value (Err why)
+  asking_refused e = record { outcome = sym e; answer = λ is. absurd (no_heap e is) }
 
-  pub renumber_call : {d : ℕ} → Renumbering ws h ws' r → d ≡ h.entries - h.scores.len → Call ws h (heap_limits h.scores.capacity (length ws)) Done renumbered surplus ws' r d
-  renumber_call k d = call_done refl t (λ is. heap_again (k.parts is.parts) (k.model is.parts) (fair_renumbered (fair_heap is))) (λ is. k.model is.parts) (λ is. d ∙ sym (surplus_is ws h)) (same_capacity k.scores) k.kept
+  pub asking_done : {x : A} → heap_limits h.scores.capacity (length ws) ≡ Ok tt → (IsHeap ws h → x ≡ value (model_of ws h)) → Asking ws h value (Ok x)
+  asking_done t e = record { outcome = sym t; answer = λ is. ap Ok (e is) }
 
--- ---- the factor
-module _ (ws : List ℕ) (h : LazyMinHeap) where
-  abbrev reset : ℕ → LazyMinHeap
-  reset f = record { scores = h.scores; entries = h.entries; seq = h.seq; factor = f }
-
-  fair_factor : (f : ℕ) {m : Heap} → Fair m → f ≤ 8 → Fair (with_factor f m)
-  unfolding with_factor
-  fair_factor f {m} g b = record {
-    valid = record { keys = g.valid.keys; few = g.valid.few; numbers = g.valid.numbers; below = g.valid.below; once = g.valid.once; sorted = g.valid.sorted };
-    few = g.few;
-    factor = (omega arith, omega arith);
+-- a call on a lent heap is refused, or done
+module _ {ws : List ℕ} {h : LazyMinHeap} {cause : Result ⊤ Refusal} {next : Heap → Heap} where
+  pub call_refused : {A : Type 0} {why : Refusal} → cause ≡ Err why → Call {A = A} ws h cause next ws h (Err why)
+  call_refused e = record {
+    outcome = sym e;
+    refused = λ w q. (refl, refl);
+    heap = λ t. cc;
+    model = λ t. cc;
+    capacity = refl;
+    kept = kept_same h.scores.capacity ws;
   }
 
-  pub factor_call : (f : ℕ) {g : ℕ} → heap_limits_with h.scores.capacity (length ws) f ≡ Done → g ≡ at_least_one f → Call ws h (heap_limits_with h.scores.capacity (length ws) f) Done (with_factor f) nothing ws (reset g) 0
-  unfolding with_factor
-  factor_call f {g} t e = call_done refl t (λ is. heap_again (same_parts is) model (fair_factor f (fair_heap is) (with_room_lem h.scores.capacity (length ws) f t).1)) (λ is. model) (λ is. refl) refl (kept_same h.scores.capacity ws)
-    where
-      same_parts : IsHeap ws h → Parts ws (reset g)
-      same_parts is = record { room = is.parts.room; scores = is.parts.scores; entries = is.parts.entries }
+  pub discards_refused : {count : Heap → ℕ} {why : Refusal} → cause ≡ Err why → Discards ws h cause next count ws h (Err why)
+  discards_refused e = record { call = call_refused e; answer = λ t. cc }
 
-      model : model_of ws (reset g) ≡ with_factor f (model_of ws h)
-      model = same_heap refl e refl refl refl
+  module _ {ws' : List ℕ} {h' : LazyMinHeap} (t : cause ≡ Ok tt) (parts : IsHeap ws h → Parts ws' h') (model : IsHeap ws h → model_of ws' h' ≡ next (model_of ws h)) (fair : IsHeap ws h → Fair (next (model_of ws h))) (capacity : h'.scores.capacity ≡ h.scores.capacity) (kept : Kept h.scores.capacity ws ws') where
+    pub call_done : {A : Type 0} {x : A} → Call ws h cause next ws' h' (Ok x)
+    call_done = record {
+      outcome = sym t;
+      refused = λ why q. cc;
+      heap = λ _ is. heap_again (parts is) (model is) (fair is);
+      model = λ _ is. model is;
+      capacity = capacity;
+      kept = kept;
+    }
 
--- ---- rebuilding where there are too many
-pub maybe_call : {ws ws' : List ℕ} {h : LazyMinHeap} (f : ℕ) {r : Step} → heap_limits_with h.scores.capacity (length ws) f ≡ Done → Trimming ws h f ws' r → Call ws h (heap_limits_with h.scores.capacity (length ws) f) Done (maybe_rebuilt f) (maybe_discards f) ws' r.heap r.discarded
-maybe_call {ws} {ws'} {h} f {r} t k =
-    let b = (with_room_lem h.scores.capacity (length ws) f t).1 in
-    call_done refl t (λ is. heap_again (k.parts is.parts) (k.model is.parts b) (fair_maybe_rebuilt f (fair_heap is))) (λ is. k.model is.parts b) (λ is. k.discarded is.parts b) (same_capacity k.scores) k.kept
+    pub discards_done : {count : Heap → ℕ} {d : ℕ} → (IsHeap ws h → d ≡ count (model_of ws h)) → Discards ws h cause next count ws' h' (Ok d)
+    discards_done e = record { call = call_done; answer = λ _ is. ap Ok (e is) }
 
--- ---- opening and clearing
+pub besting_refused : {ws : List ℕ} {h : LazyMinHeap} {next : Heap → Heap} {best : Heap → Option (ℕ × ℕ)} {why : Refusal} → heap_limits h.scores.capacity (length ws) ≡ Err why → Besting ws h next best ws h (Err why)
+besting_refused e = record { call = call_refused e; answer = λ is. absurd (no_heap e is) }
+
+-- ---- all entries at once
+module _ {ws ws' : List ℕ} {h h' : LazyMinHeap} {d : ℕ} where
+  pub rebuild_call : heap_limits h.scores.capacity (length ws) ≡ Ok tt → Rebuilding ws h ws' h' → d ≡ h.entries - h.scores.len → RebuildingNow ws h ws' h' (Ok d)
+  rebuild_call t k d = discards_done t (λ is. k.parts is.parts) (λ is. rebuilt_model k is.parts) (λ is. fair_rebuilt (fair_heap is)) (same_capacity k.entered.scores) k.entered.kept (λ is. d ∙ sym (surplus_is ws h))
+
+  pub renumber_call : heap_limits h.scores.capacity (length ws) ≡ Ok tt → Renumbering ws h ws' h' → d ≡ h.entries - h.scores.len → RenumberingNow ws h ws' h' (Ok d)
+  renumber_call t k d = discards_done t (λ is. k.parts is.parts) (λ is. k.model is.parts) (λ is. fair_renumbered (fair_heap is)) (same_capacity k.scores) k.kept (λ is. d ∙ sym (surplus_is ws h))
+
+  -- rebuilding where there are too many
+  pub maybe_call : (f : ℕ) → heap_limits_with h.scores.capacity (length ws) f ≡ Ok tt → Trimming ws h f ws' h' d → RebuildingMaybe ws h f ws' h' (Ok d)
+  maybe_call f t k = discards_done t (λ is. k.parts is.parts) (λ is. k.model is.parts) (λ is. fair_maybe_rebuilt f (fair_heap is)) (same_capacity k.scores) k.kept (λ is. k.discarded is.parts)
+
+-- ---- the factor
+fair_factor : (f : ℕ) → f ≤ 8 → {m : Heap} → Fair m → Fair (with_factor f m)
+unfolding with_factor
+fair_factor f b g = record {
+  valid = record { keys = g.valid.keys; few = g.valid.few; numbers = g.valid.numbers; below = g.valid.below; once = g.valid.once; sorted = g.valid.sorted };
+  few = g.few;
+  factor = (omega arith, omega arith);
+}
+
+pub factor_call : (ws : List ℕ) (h : LazyMinHeap) (f : ℕ) {g : ℕ} → heap_limits_with h.scores.capacity (length ws) f ≡ Ok tt → g ≡ at_least_one f → Resetting ws h f (record { scores = h.scores; entries = h.entries; seq = h.seq; factor = g }) (Ok tt)
+unfolding with_factor
+factor_call ws h f t e =
+    call_done t (λ is. record { room = is.parts.room; scores = is.parts.scores; entries = is.parts.entries }) (λ is. same_heap refl e refl refl refl) (λ is. fair_factor f (with_room_lem h.scores.capacity (length ws) f t).1 (fair_heap is)) refl
+    (kept_same h.scores.capacity ws)
+
+-- ---- a place in the scores
 fits : {n l : ℕ} → Room l n → map_fits n l ≡ true
 unfolding map_fits
 fits {n} {l} g = rw (le-leb n 4096 g.limit, le-leb (8 * n + 58) l (omega (arith, g.words)))
 
+pub place_some : (ws : List ℕ) (m : LinkedHashMap) (k : ℕ) {r : Result Probe Unfit} → r ≡ scores.place_of ws m k → Room (length ws) m.capacity → IsOk r
+unfolding scores.place_of
+place_some ws m k e g = rw (e, fits g)
+
+-- ---- opening and clearing
 fair_opened : (n f s : ℕ) → f ≤ 8 → Fair (opened n f s)
 unfolding opened
 fair_opened n f s b = record { valid = valid_opened n f s; few = omega arith; factor = (omega arith, omega arith) }
 
-module _ {ws ws' : List ℕ} (n f s : ℕ) {r : mapOpened.Opened} (t : heap_limits_with n (length ws) f ≡ Done) (o : scores.Opening ws n ws' r) where
-  abbrev fresh : ℕ → LazyMinHeap
-  fresh g = record { scores = r.map; entries = 0; seq = s; factor = g }
+module _ {ws ws' : List ℕ} (n f : ℕ) {r : Result LinkedHashMap Unfit} (t : heap_limits_with n (length ws) f ≡ Ok tt) (o : scores.Opening ws n ws' r) where
+  room : Room (length ws) n × (f ≤ 8)
+  room = with_room_lem n (length ws) f t
 
-  pub open_done : {g : ℕ} → g ≡ at_least_one f → Opening ws n f s ws' (record { heap = fresh g; outcome = Done })
-  unfolding opened
-  open_done {g} e = record {
-    outcome = sym t;
-    refused = λ why q. absurd (refused_done why (sym q));
-    heap = λ q. heap_again parts model (fair_opened n f s room.1);
-    model = λ q. model;
-    kept = record { size = o.kept.size; past = λ j b. o.kept.past j (omega arith) };
-  }
-    where
-      room : Room (length ws) n × (f ≤ 8)
-      room = with_room_lem n (length ws) f t
+  -- the map is opened
+  pub open_map : IsOk r
+  open_map = o.opened (fits room.0)
 
-      fit_true : map_fits n (length ws) ≡ true
-      fit_true = fits room.0
+  module _ (s g : ℕ) (m : LinkedHashMap) (is : r ≡ Ok m) (e : g ≡ at_least_one f) where
+    abbrev fresh : LazyMinHeap
+    fresh = record { scores = m; entries = 0; seq = s; factor = g }
 
-      parts : Parts ws' (fresh g)
-      parts = record { room = rw (o.capacity fit_true, o.kept.size) room.0; scores = o.map fit_true; entries = heap_none (part r.map.capacity ws') }
+    fresh_capacity : m.capacity ≡ n
+    fresh_capacity = IfOk-at_ok (λ x. x.capacity ≡ n) is o.capacity
 
-      model : model_of ws' (fresh g) ≡ opened n f s
-      model = same_heap (o.capacity fit_true) e refl (o.model fit_true) (model_none (part r.map.capacity ws'))
+    fresh_parts : Parts ws' fresh
+    fresh_parts = record { room = rw (fresh_capacity, o.kept.size) room.0; scores = IfOk-at_ok (IsMap ws') is o.map; entries = heap_none (part m.capacity ws') }
 
-pub open_refused : (ws : List ℕ) (n f s : ℕ) (why : Refusal) → heap_limits_with n (length ws) f ≡ Refused why → Opening ws n f s ws (record { heap = no_heap; outcome = Refused why })
-open_refused ws n f s why e = record {
+    fresh_model : model_of ws' fresh ≡ opened n f s
+    unfolding opened
+    fresh_model = same_heap fresh_capacity e refl (IfOk-at_ok (λ x. map.model_of ws' x ≡ []) is o.model) (model_none (part m.capacity ws'))
+
+    pub open_done : Opening ws n f s ws' (Ok fresh)
+    open_done = record {
+      outcome = sym t;
+      refused = λ why q. cc;
+      heap = λ h q. let same : fresh ≡ h = cc in subst (IsHeap ws') same (heap_again fresh_parts fresh_model (fair_opened n f s room.1));
+      model = λ h q. let same : fresh ≡ h = cc in ap (model_of ws') (sym same) ∙ fresh_model;
+      kept = record { size = o.kept.size; past = λ j b. o.kept.past j (omega arith) };
+    }
+
+pub open_refused : {ws : List ℕ} {n f s : ℕ} {why : Refusal} → heap_limits_with n (length ws) f ≡ Err why → Opening ws n f s ws (Err why)
+open_refused {ws} {n} e = record {
   outcome = sym e;
-  refused = λ w q. (refl, refl);
-  heap = λ q. absurd (refused_done why q);
-  model = λ q. absurd (refused_done why q);
+  refused = λ w q. refl;
+  heap = λ h q. cc;
+  model = λ h q. cc;
   kept = kept_same n ws;
 }
 
-module _ {ws ws' : List ℕ} (h : LazyMinHeap) {r : mapOpened.Opened} (t : heap_limits h.scores.capacity (length ws) ≡ Done) (o : scores.Clearing ws h.scores ws' r) where
+module _ {ws ws' : List ℕ} (h : LazyMinHeap) {m : LinkedHashMap} {r : Result ⊤ Unfit} (t : heap_limits h.scores.capacity (length ws) ≡ Ok tt) (o : scores.Clearing ws h.scores ws' m r) where
   abbrev emptied : LazyMinHeap
-  emptied = record { scores = r.map; entries = 0; seq = h.seq; factor = h.factor }
+  emptied = record { scores = m; entries = 0; seq = h.seq; factor = h.factor }
 
-  pub clear_call : {d : ℕ} → d ≡ h.entries - h.scores.len → Call ws h (heap_limits h.scores.capacity (length ws)) Done cleared surplus ws' emptied d
+  -- the map is cleared
+  pub clear_map : IsOk r
+  clear_map = o.cleared (fits (limits_room h.scores.capacity (length ws) t))
+
+  pub clear_call : {d : ℕ} → d ≡ h.entries - h.scores.len → Clearing ws h ws' emptied (Ok d)
   unfolding cleared
   clear_call d =
-      call_done refl t (λ is. heap_again (parts is.parts) (model is.parts) (fair_cleared (fair_heap is))) (λ is. model is.parts) (λ is. d ∙ sym (surplus_is ws h)) o.capacity
+      discards_done t (λ is. cleared_parts is.parts) (λ is. same_heap o.capacity refl refl (o.model is.parts.scores) (model_none (part m.capacity ws'))) (λ is. fair_cleared (fair_heap is)) o.capacity
       (record { size = o.kept.size; past = λ j b. o.kept.past j (omega arith) })
+      (λ is. d ∙ sym (surplus_is ws h))
     where
-      parts : Parts ws h → Parts ws' emptied
-      parts p = record { room = rw (o.capacity, o.kept.size) p.room; scores = o.map p.scores; entries = heap_none (part r.map.capacity ws') }
-
-      model : Parts ws h → model_of ws' emptied ≡ cleared (model_of ws h)
-      model p = same_heap o.capacity refl refl (o.model p.scores) (model_none (part r.map.capacity ws'))
+      cleared_parts : Parts ws h → Parts ws' emptied
+      cleared_parts p = record { room = rw (o.capacity, o.kept.size) p.room; scores = o.map p.scores; entries = heap_none (part m.capacity ws') }
 
 -- ---- a key is taken out
-held_accepted : (t : Taken) → of_score (held_score t) ≡ Done
-held_accepted (taken.Record r) = refl
-held_accepted taken.Nothing = refl
-held_accepted taken.Refused = refl
-
-module _ {ws ws' : List ℕ} (h : LazyMinHeap) (k : ℕ) {r : Removed} (o : scores.Removing ws h.scores k ws' r) where
+module _ {ws ws' : List ℕ} (h : LazyMinHeap) {k : ℕ} {m : LinkedHashMap} {a : Option ℕ} (o : TakingKey ws h.scores k ws' m a) where
   abbrev without_key : LazyMinHeap
-  without_key = record { scores = r.map; entries = h.entries; seq = h.seq; factor = h.factor }
+  without_key = record { scores = m; entries = h.entries; seq = h.seq; factor = h.factor }
 
-  part_kept : part r.map.capacity ws' ≡ part h.scores.capacity ws
+  abbrev out : scores.Removing ws h.scores k ws' m (Ok o.gone)
+  out = o.removing
+
+  part_kept : part m.capacity ws' ≡ part h.scores.capacity ws
   part_kept =
       let n = h.scores.capacity in
-      ap (λ (c : ℕ). part c ws') o.capacity ∙ part_same ws ws' (start n) (words_for n - start n) o.kept.size (λ j a b. o.kept.past j a)
+      ap (λ (c : ℕ). part c ws') out.capacity ∙ part_same ws ws' (start n) (words_for n - start n) out.kept.size (λ j a b. out.kept.past j a)
 
   pub remove_parts : Parts ws h → Parts ws' without_key
   remove_parts p = record {
-    room = rw (o.capacity, o.kept.size) p.room;
-    scores = o.map p.scores;
+    room = rw (out.capacity, out.kept.size) p.room;
+    scores = out.map p.scores;
     entries = rw part_kept p.entries;
   }
 
   pub remove_model : Parts ws h → model_of ws' without_key ≡ removed k (model_of ws h)
   unfolding removed
-  remove_model p = same_heap o.capacity refl refl (o.model p.scores) (ap (λ (ys : List ℕ). array.model_of ys h.entries) part_kept)
+  remove_model p = same_heap out.capacity refl refl (out.model p.scores) (ap (λ (ys : List ℕ). array.model_of ys h.entries) part_kept)
 
   pub remove_kept : Kept h.scores.capacity ws ws'
-  remove_kept = record { size = o.kept.size; past = λ j b. o.kept.past j (omega arith) }
+  remove_kept = record { size = out.kept.size; past = λ j b. out.kept.past j (omega arith) }
 
-  pub remove_call : {told : Outcome} → told ≡ Done → heap_limits h.scores.capacity (length ws) ≡ Done → Call ws h (heap_limits h.scores.capacity (length ws)) told (removed k) nothing ws' without_key 0
-  remove_call u t = call_done u t (λ is. heap_again (remove_parts is.parts) (remove_model is.parts) (fair_removed k (fair_heap is))) (λ is. remove_model is.parts) (λ is. refl) o.capacity remove_kept
-
-  pub removing : {a : Score} → a ≡ held_score r.answer → without_key ≡ with_held h r.map.len → Room (length ws) h.scores.capacity → Removing ws h k ws' (record { heap = without_key; answer = a; discarded = 0 })
-  removing e n room = record {
-    call = remove_call (ap of_score e ∙ held_accepted r.answer) (room_limits room);
-    numbers = n;
-    answer = λ is. e ∙ ap held_score (o.answer is.parts.scores);
+  pub removing : heap_limits h.scores.capacity (length ws) ≡ Ok tt → Removing ws h k ws' without_key (Ok (counted a 0))
+  removing t = record {
+    call = call_done t (λ is. remove_parts is.parts) (λ is. remove_model is.parts) (λ is. fair_removed k (fair_heap is)) out.capacity remove_kept;
+    numbers = λ i. record { scores = o.numbers i; entries = h.entries; seq = h.seq; factor = h.factor };
+    answer = λ is. let was : Ok o.gone ≡ Ok (lookup k (model_of ws h).held) = out.answer is.parts.scores in let gone : o.gone ≡ lookup k (model_of ws h).held = cc in ap (λ (x : Option ℕ). Ok (counted x 0)) (o.answer ∙ ap held_score gone);
   }
+
+pub removing_refused : {ws : List ℕ} {h : LazyMinHeap} {k : ℕ} {why : Refusal} → heap_limits h.scores.capacity (length ws) ≡ Err why → Removing ws h k ws h (Err why)
+removing_refused e = record { call = call_refused e; numbers = refl; answer = λ is. absurd (no_heap e is) }

@@ -10,11 +10,11 @@ use mathlib.Core.Logic.{⊎_elim}
 use Prim.Native.Nat.{ℕ, zero, suc, ◌*◌, ◌<◌, ◌≤◌}
 use native.Mathlib.Omega.{arith}
 use lib.ListN.{length, replicate, length-replicate, get_or-replicate, get_or-eq_default}
+use Rattle.std.specs.Prelude.{Option, None, Some}
 use Rattle.rings.proofs.Counts.{by_lt}
 use Rattle.binary_heap.proofs.Laws.{model_sorted}
 use Rattle.linked_hash_map.specs.declared.map.LinkedHashMap.{LinkedHashMap}
 use Rattle.linked_hash_map.specs.declared.map.Record.{Record}
-use Rattle.linked_hash_map.specs.declared.map.Taken.TheVariants as taken
 use Rattle.linked_hash_map.specs.Model.{nth}
 use Rattle.linked_hash_map.specs.Map as map
 use Rattle.linked_hash_map.proofs.Laws.{place_taken, place_below, place_key, map_distinct}
@@ -26,18 +26,18 @@ use Rattle.lazy_heap.specs.Walks.{Blank, Tallying, RecordsValid, Sound, Agreeing
 use Rattle.lazy_heap.specs.Calls.{Checking}
 
 -- a record of a list has a place in it, and a place a record
-mem_nth : (r : Record) (l : List Record) → Memᴰ r l → (i : ℕ) × (i < length l) × (nth i l ≡ taken.Record r)
+mem_nth : (r : Record) (l : List Record) → Memᴰ r l → (i : ℕ) × (i < length l) × (nth i l ≡ Some r)
 unfolding nth
 mem_nth r [] q = absurd (not-nil q)
 mem_nth r (x ∷ l) q = ⊎_elim here (λ t. there (mem_nth r l t)) (cases_cons q)
   where
-    here : r ≡ x → (i : ℕ) × (i < length (x ∷ l)) × (nth i (x ∷ l) ≡ taken.Record r)
+    here : r ≡ x → (i : ℕ) × (i < length (x ∷ l)) × (nth i (x ∷ l) ≡ Some r)
     here e = (0, omega arith, sym (rw e))
 
-    there : (i : ℕ) × (i < length l) × (nth i l ≡ taken.Record r) → (i : ℕ) × (i < length (x ∷ l)) × (nth i (x ∷ l) ≡ taken.Record r)
+    there : (i : ℕ) × (i < length l) × (nth i l ≡ Some r) → (i : ℕ) × (i < length (x ∷ l)) × (nth i (x ∷ l) ≡ Some r)
     there o = (suc o.0, omega (arith, o.1), o.2)
 
-nth_mem : (i : ℕ) (l : List Record) → i < length l → (r : Record) × (nth i l ≡ taken.Record r) × Memᴰ r l
+nth_mem : (i : ℕ) (l : List Record) → i < length l → (r : Record) × (nth i l ≡ Some r) × Memᴰ r l
 unfolding nth
 nth_mem i [] h = absurd (omega arith)
 nth_mem zero (x ∷ l) h = (x, refl, head refl)

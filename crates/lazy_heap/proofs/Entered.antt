@@ -3,13 +3,12 @@ use mathlib.Core.Path.{◌≡◌, refl, ap, ◌∙◌}
 use mathlib.Core.List.{List}
 use Prim.Native.Nat.{ℕ, ◌+◌, ◌-◌, ◌*◌, ◌<◌, ◌≤◌}
 use native.Mathlib.Omega.{arith}
-use mathlib.Core.Bool.{true}
+use mathlib.Core.Bool.{Bool, true}
 use lib.ListN.{length, get_or}
 use borrow.Author.Tests.{le-leb}
 use borrow.Rule.Slice.PartMut.{put_mid}
+use Rattle.std.specs.Prelude.{Option}
 use Rattle.binary_heap.specs.declared.entries.Entry.{Entry}
-use Rattle.binary_heap.specs.declared.heap.Pushed.{Pushed}
-use Rattle.binary_heap.specs.declared.heap.Popped.{Popped}
 use Rattle.binary_heap.specs.Heap as array
 use Rattle.binary_heap.specs.Calls as call
 use Rattle.linked_hash_map.specs.declared.map.LinkedHashMap.{LinkedHashMap}
@@ -86,34 +85,29 @@ room_next : (n e : ℕ) → n ≤ 4096 → e ≤ 8 * n → array.fit (e + 1) (wo
 unfolding array.fit
 room_next n e h g = rw (le-leb (e + 1) 32769 (omega arith), le-leb (3 * (e + 1)) (words_for n - start n) (omega arith))
 
-module _ (ws : List ℕ) (h : LazyMinHeap) (room : Room (length ws) h.scores.capacity) (ys : List ℕ) where
-  pub pushing : (e : Entry) (p : Pushed) → call.Pushing (part h.scores.capacity ws) h.entries e ys p → Pushing ws h e (with_part h.scores.capacity ws ys) (record { scores = h.scores; entries = p.len; seq = h.seq; factor = h.factor })
-  pushing e p c = record {
-    entered = entered_part ws h room ys size r refl refl refl;
+-- the numbers with n entries
+abbrev with_entries : LazyMinHeap → ℕ → LazyMinHeap
+with_entries h n = record { scores = h.scores; entries = n; seq = h.seq; factor = h.factor }
+
+module _ {ws : List ℕ} {h : LazyMinHeap} (room : Room (length ws) h.scores.capacity) {ys : List ℕ} {n : ℕ} where
+  pub pushing : {e : Entry} {r : Bool} → call.Pushing (part h.scores.capacity ws) h.entries e ys n r → Pushing ws h e (with_part h.scores.capacity ws ys) (with_entries h n)
+  pushing c = record {
+    entered = entered_part ws h room ys size (with_entries h n) refl refl refl;
     count = λ q g. (c.done (fits g)).1;
-    parts = λ q g. parts_part ws h room ys size r refl q (rw (c.done (fits g)).1 (c.heap (fits g) q.entries));
-    entries = λ q g. entries_part ws h room ys size r refl ∙ ap (array.model_of ys) (c.done (fits g)).1 ∙ c.model (fits g);
+    parts = λ q g. parts_part ws h room ys size (with_entries h n) refl q (rw (c.done (fits g)).1 (c.heap (fits g) q.entries));
+    entries = λ q g. entries_part ws h room ys size (with_entries h n) refl ∙ ap (array.model_of ys) (c.done (fits g)).1 ∙ c.model (fits g);
   }
     where
       size : length ys ≡ length (part h.scores.capacity ws)
       size = c.kept.size
 
-      r : LazyMinHeap
-      r = record { scores = h.scores; entries = p.len; seq = h.seq; factor = h.factor }
-
       fits : h.entries ≤ 8 * h.scores.capacity → array.fit (h.entries + 1) (length (part h.scores.capacity ws)) ≡ true
       fits g = ap (array.fit (h.entries + 1)) (part_size h.scores.capacity ws room) ∙ room_next h.scores.capacity h.entries room.limit g
 
-  pub popping : (p : Popped) → call.Popping (part h.scores.capacity ws) h.entries ys p → Popping ws h (with_part h.scores.capacity ws ys) (record { scores = h.scores; entries = p.len; seq = h.seq; factor = h.factor })
-  popping p c = record {
-    entered = entered_part ws h room ys c.kept.size r refl refl refl;
-    count = λ q. c.shorter (fits q);
-    parts = λ q. parts_part ws h room ys c.kept.size r refl q (c.heap q.entries);
-    entries = λ q. entries_part ws h room ys c.kept.size r refl ∙ c.model q.entries;
+  pub popping : {r : Option Entry} → call.Popping (part h.scores.capacity ws) h.entries ys n r → Popping ws h (with_part h.scores.capacity ws ys) (with_entries h n)
+  popping c = record {
+    entered = entered_part ws h room ys c.kept.size (with_entries h n) refl refl refl;
+    count = λ q. c.shorter (fit_of_room q.entries.room);
+    parts = λ q. parts_part ws h room ys c.kept.size (with_entries h n) refl q (c.heap q.entries);
+    entries = λ q. entries_part ws h room ys c.kept.size (with_entries h n) refl ∙ c.model q.entries;
   }
-    where
-      r : LazyMinHeap
-      r = record { scores = h.scores; entries = p.len; seq = h.seq; factor = h.factor }
-
-      fits : Parts ws h → array.fit h.entries (length (part h.scores.capacity ws)) ≡ true
-      fits q = fit_of_room q.entries.room

@@ -12,10 +12,9 @@ use native.Mathlib.Omega.{arith}
 use lib.Dec.{eqb}
 use lib.ListN.{length}
 use borrow.Author.Tests.{eq-eqb, ne_eqb, eqb-true, eqb-false}
+use Rattle.std.specs.Prelude.{Option, None, Some}
 use Rattle.binary_heap.specs.declared.entries.Entry.{Entry}
 use Rattle.linked_hash_map.specs.declared.map.Record.{Record}
-use Rattle.linked_hash_map.specs.declared.map.Taken.{Taken}
-use Rattle.linked_hash_map.specs.declared.map.Taken.TheVariants as taken
 use Rattle.linked_hash_map.specs.Model.{has, lookup, without, Distinct}
 use Rattle.lazy_heap_model.specs.Model.{entry_of, matches, live}
 use Rattle.lazy_heap.specs.Valid.{Falling}
@@ -105,15 +104,15 @@ falling_below b (x ∷ held) f r q =
     (cases_cons q)
 
 -- ---- a key's record, and its entry
-pub lookup_mem : (held : List Record) → Distinct held → (r : Record) → Memᴰ r held → lookup r.key held ≡ taken.Record r
+pub lookup_mem : (held : List Record) → Distinct held → (r : Record) → Memᴰ r held → lookup r.key held ≡ Some r
 unfolding lookup
 lookup_mem [] d r q = absurd (not-nil q)
 lookup_mem (x ∷ held) d r q = ⊎_elim here (λ t. there t (lookup_mem held d.1 r t)) (cases_cons q)
   where
-    here : r ≡ x → lookup r.key (x ∷ held) ≡ taken.Record r
-    here h = rw (eq-eqb x.key r.key (ap (λ (y : Record). y.key) (sym h))) (ap taken.Record (sym h))
+    here : r ≡ x → lookup r.key (x ∷ held) ≡ Some r
+    here h = rw (eq-eqb x.key r.key (ap (λ (y : Record). y.key) (sym h))) (ap Some (sym h))
 
-    there : Memᴰ r held → lookup r.key held ≡ taken.Record r → lookup r.key (x ∷ held) ≡ taken.Record r
+    there : Memᴰ r held → lookup r.key held ≡ Some r → lookup r.key (x ∷ held) ≡ Some r
     there t ih = rw (ne_eqb x.key r.key (λ e. missing_key x.key held d.0 r t (sym e))) ih
 
 -- a held key's entry is live
@@ -125,12 +124,12 @@ both : (a b : Bool) → (a && b) ≡ true → (a ≡ true) × (b ≡ true)
 both true b e = (refl, e)
 both false b e = absurd (true≢false (sym e))
 
-pub lookup_found : (k : ℕ) (held : List Record) (r : Record) → lookup k held ≡ taken.Record r → Memᴰ r held × (r.key ≡ k)
+pub lookup_found : (k : ℕ) (held : List Record) (r : Record) → lookup k held ≡ Some r → Memᴰ r held × (r.key ≡ k)
 unfolding lookup
-lookup_found k [] r e = absurd (let z : ◌≡◌ {A = ℕ} 0 1 = cc in omega arith)
+lookup_found k [] r e = cc
 lookup_found k (x ∷ held) r e = go (eqb x.key k) refl e (lookup_found k held r)
   where
-    go : (b : Bool) → eqb x.key k ≡ b → cond b (taken.Record x) (lookup k held) ≡ taken.Record r → (lookup k held ≡ taken.Record r → Memᴰ r held × (r.key ≡ k)) → Memᴰ r (x ∷ held) × (r.key ≡ k)
+    go : (b : Bool) → eqb x.key k ≡ b → cond b (Some x) (lookup k held) ≡ Some r → (lookup k held ≡ Some r → Memᴰ r held × (r.key ≡ k)) → Memᴰ r (x ∷ held) × (r.key ≡ k)
     go true t q ih = let same : x ≡ r = cc in (head (sym same), ap (λ (y : Record). y.key) (sym same) ∙ eqb-true _ _ t)
     go false t q ih = let o = ih q in (tail o.0, o.1)
 
@@ -145,13 +144,12 @@ pub live_held : (held : List Record) (e : Entry) → live held e ≡ true → (r
 unfolding live
 live_held held e l = go (lookup e.key held) refl l
   where
-    go : (t : Taken) → lookup e.key held ≡ t → matches t e ≡ true → (r : Record) × (Memᴰ r held × (entry_of r ≡ e))
-    go (taken.Record r) q m =
+    go : (t : Option Record) → lookup e.key held ≡ t → matches t e ≡ true → (r : Record) × (Memᴰ r held × (entry_of r ≡ e))
+    go (Some r) q m =
         let o = lookup_found e.key held r q in
         let b = both (eqb r.first e.score) (eqb r.second e.seq) m in
         let s : r.first ≡ e.score = eqb-true _ _ b.0 in
         let n : r.second ≡ e.seq = eqb-true _ _ b.1 in
         let k : r.key ≡ e.key = o.1 in
         (r, (o.0, same_entry s n k))
-    go taken.Nothing q m = absurd (true≢false (sym m))
-    go taken.Refused q m = absurd (true≢false (sym m))
+    go None q m = absurd (true≢false (sym m))

@@ -9,15 +9,14 @@ use lib.Dec.{eqb}
 use lib.ListN.{length, get_or, take, drop, length-drop, drop_of_length-le}
 use lib.Seq.{take_all}
 use borrow.Author.Tests.{eq-eqb, eqb-true}
+use Rattle.std.specs.Prelude.{Option, None, Some, Result, Ok}
 use Rattle.binary_heap.specs.declared.entries.Entry.{Entry}
 use Rattle.binary_heap.specs.Order.{insert, sort}
 use Rattle.binary_heap.specs.Heap as array
 use Rattle.binary_heap.proofs.Laws.{model_none}
 use Rattle.linked_hash_map.specs.declared.map.LinkedHashMap.{LinkedHashMap}
 use Rattle.linked_hash_map.specs.declared.map.Record.{Record}
-use Rattle.linked_hash_map.specs.declared.map.Slot.{Slot}
-use Rattle.linked_hash_map.specs.declared.map.Slot.TheVariants as slot
-use Rattle.linked_hash_map.specs.declared.map.Taken.TheVariants as taken
+use Rattle.linked_hash_map.specs.declared.map.Unfit.{Unfit}
 use Rattle.linked_hash_map.specs.Model.{has, nth, with_payload, Distinct}
 use Rattle.linked_hash_map.specs.Map as map
 use Rattle.linked_hash_map.specs.Calls.{Reading, Writing, Ending, Previous}
@@ -27,19 +26,19 @@ use Rattle.lazy_heap.specs.declared.heap.LazyMinHeap.{LazyMinHeap}
 use Rattle.lazy_heap.specs.Words.{part}
 use Rattle.lazy_heap_model.specs.Model.{entry_of, numbered}
 use Rattle.lazy_heap.specs.Heap.{held_of, entries_of, Parts}
-use Rattle.lazy_heap.specs.Steps.{Entered, Pushing, slot_number}
+use Rattle.lazy_heap.specs.Steps.{Entered, Pushing}
 use Rattle.lazy_heap.proofs.Settling.{entered_then, entered_same}
 
 -- the records from a place on
-pub nth_drop : (i : ℕ) (l : List Record) (r : Record) → nth i l ≡ taken.Record r → drop i l ≡ r ∷ drop (suc i) l
+pub nth_drop : (i : ℕ) (l : List Record) (r : Record) → nth i l ≡ Some r → drop i l ≡ r ∷ drop (suc i) l
 unfolding nth
-nth_drop i [] r q = absurd (let z : ◌≡◌ {A = ℕ} 0 1 = cc in omega arith)
+nth_drop i [] r q = cc
 nth_drop zero (x ∷ l) r q = let same : x ≡ r = cc in ap (λ (y : Record). y ∷ l) same
 nth_drop (suc i) (x ∷ l) r q = nth_drop i l r q
 
--- a place that has a slot has its number
-pub at_number : (t : Slot) (s n : ℕ) → t ≡ slot.At s → slot_number t n ≡ s
-at_number t s n q = rw q
+-- the slot of a place that was told
+pub told_slot : {at : Result (Option ℕ) Unfit} {t : Option ℕ} {s : ℕ} → at ≡ Ok t → at ≡ Ok (Some s) → t ≡ Some s
+told_slot p q = cc
 
 sort_none : sort [] ≡ []
 unfolding sort
@@ -49,30 +48,28 @@ sort_cons : (e : Entry) (l : List Entry) → sort (e ∷ l) ≡ insert e (sort l
 unfolding sort
 sort_cons e l = refl
 
--- so many records are still to be entered, and s is the slot of the last of them
-pub record Refilling (ws₀ : List ℕ) (h₀ : LazyMinHeap) (ws : List ℕ) (h : LazyMinHeap) (left s : ℕ) : Type 0 where
+-- so many records are still to be entered, and at tells the slot of the last of them
+pub record Refilling (ws₀ : List ℕ) (h₀ : LazyMinHeap) (ws : List ℕ) (h : LazyMinHeap) (left : ℕ) (at : Result (Option ℕ) Unfit) : Type 0 where
   pub entered : Entered ws₀ h₀ ws h
-  pub within : left ≤ h₀.scores.len
   pub parts : Parts ws₀ h₀ → Parts ws h
   pub count : Parts ws₀ h₀ → h.entries + left ≡ h₀.scores.len
   pub filled : Parts ws₀ h₀ → entries_of ws h ≡ sort (map entry_of (drop left (held_of ws₀ h₀)))
-  pub place : Parts ws₀ h₀ → 0 < left → map.slot_at ws₀ h₀.scores (left - 1) ≡ slot.At s
+  pub place : Parts ws₀ h₀ → 0 < left → at ≡ Ok (map.slot_at ws₀ h₀.scores (left - 1))
 
-pub refilling_start : (ws : List ℕ) (h : LazyMinHeap) (t : Slot) (n : ℕ) → h.entries ≡ 0 → Ending ws h.scores (h.scores.len - 1) t → Refilling ws h ws h h.scores.len (slot_number t n)
-refilling_start ws h t n none last = record {
+pub refilling_start : (ws : List ℕ) (h : LazyMinHeap) {at : Result (Option ℕ) Unfit} → h.entries ≡ 0 → Ending ws h.scores (h.scores.len - 1) at → Refilling ws h ws h h.scores.len at
+refilling_start ws h none last = record {
   entered = entered_same ws h;
-  within = omega arith;
   parts = λ p. p;
   count = λ p. omega arith;
   filled = λ p. ap (array.model_of (part h.scores.capacity ws)) none ∙ model_none (part h.scores.capacity ws) ∙ sym (ap (λ (l : List Record). sort (map entry_of l)) (nothing p) ∙ sort_none);
-  place = λ p b. let q = place_taken ws h.scores (h.scores.len - 1) (omega arith) in q ∙ ap slot.At (sym (at_number t _ n (last.answer p.scores ∙ q)));
+  place = λ p b. last.answer p.scores;
 }
   where
     nothing : Parts ws h → drop h.scores.len (held_of ws h) ≡ []
     nothing p = drop_of_length-le (held_of ws h) {i = h.scores.len} (omega (arith, model_length ws h.scores))
 
 -- one more is entered, and the walk goes on to the one set after it
-module _ {ws₀ ws ws' : List ℕ} {h₀ h r : LazyMinHeap} {left s : ℕ} (f : Refilling ws₀ h₀ ws h left s) (more : 0 < left) (x : Record) (read : Reading ws h₀.scores s x) (push : Pushing ws h (entry_of x) ws' r) (t : Slot) (n : ℕ) (back : Previous ws' h₀.scores s t) where
+module _ {ws₀ ws ws' : List ℕ} {h₀ h h' : LazyMinHeap} {left rest : ℕ} {at at' : Result (Option ℕ) Unfit} (f : Refilling ws₀ h₀ ws h left at) (one : suc rest ≡ left) {s : ℕ} (some : at ≡ Ok (Some s)) {x : Record} (read : Reading ws h₀.scores s x) (push : Pushing ws h (entry_of x) ws' h') (back : Previous ws' h₀.scores s at') where
   -- the scores are those of the start
   scores_now : Parts ws₀ h₀ → map.IsMap ws h₀.scores
   scores_now p = rw f.entered.scores at (f.parts p).scores
@@ -83,19 +80,17 @@ module _ {ws₀ ws ws' : List ℕ} {h₀ h r : LazyMinHeap} {left s : ℕ} (f : 
   room : Parts ws₀ h₀ → h.entries ≤ 8 * h.scores.capacity
   room p = omega (arith, f.count p, p.scores.count, p.room.some, ap (λ (m : LinkedHashMap). m.capacity) f.entered.scores)
 
-  here : (p : Parts ws₀ h₀) → map.slot_at ws h₀.scores (left - 1) ≡ slot.At s
-  here p = f.entered.places p (left - 1) ∙ f.place p more
+  here : (p : Parts ws₀ h₀) → map.slot_at ws₀ h₀.scores rest ≡ Some s
+  here p = let e : left - 1 ≡ rest = omega arith in ap (map.slot_at ws₀ h₀.scores) (sym e) ∙ told_slot (f.place p (omega arith)) some
 
-  taken_from : (p : Parts ws₀ h₀) → drop (left - 1) (held_of ws₀ h₀) ≡ x ∷ drop left (held_of ws₀ h₀)
+  taken_from : (p : Parts ws₀ h₀) → drop rest (held_of ws₀ h₀) ≡ x ∷ drop left (held_of ws₀ h₀)
   taken_from p =
-      let e : suc (left - 1) ≡ left = omega arith in
-      nth_drop (left - 1) (held_of ws₀ h₀) x (ap (nth (left - 1)) (sym (held_now p)) ∙ read.placed (scores_now p) (left - 1) (here p))
-      ∙ ap (λ (i : ℕ). x ∷ drop i (held_of ws₀ h₀)) e
+      nth_drop rest (held_of ws₀ h₀) x (ap (nth rest) (sym (held_now p)) ∙ read.placed (scores_now p) rest (f.entered.places p rest ∙ here p))
+      ∙ ap (λ (i : ℕ). x ∷ drop i (held_of ws₀ h₀)) one
 
-  pub refilling_on : Refilling ws₀ h₀ ws' r (left - 1) (slot_number t n)
+  pub refilling_on : Refilling ws₀ h₀ ws' h' rest at'
   refilling_on = record {
     entered = entered_then f.entered f.parts push.entered;
-    within = omega (arith, f.within);
     parts = λ p. push.parts (f.parts p) (room p);
     count = λ p. omega (arith, push.count (f.parts p) (room p), f.count p);
     filled = λ p.
@@ -103,7 +98,7 @@ module _ {ws₀ ws ws' : List ℕ} {h₀ h r : LazyMinHeap} {left s : ℕ} (f : 
         ∙ ap (insert (entry_of x)) (f.filled p)
         ∙ sym (sort_cons (entry_of x) (map entry_of (drop left (held_of ws₀ h₀))))
         ∙ ap (λ (l : List Record). sort (map entry_of l)) (sym (taken_from p));
-    place = λ p b. before p b;
+    place = before;
   }
     where
       scores_then : Parts ws₀ h₀ → map.IsMap ws' h₀.scores
@@ -112,13 +107,15 @@ module _ {ws₀ ws ws' : List ℕ} {h₀ h r : LazyMinHeap} {left s : ℕ} (f : 
       places_then : (p : Parts ws₀ h₀) (i : ℕ) → map.slot_at ws' h₀.scores i ≡ map.slot_at ws₀ h₀.scores i
       places_then p i = (entered_then f.entered f.parts push.entered).places p i
 
-      before : (p : Parts ws₀ h₀) → 0 < left - 1 → map.slot_at ws₀ h₀.scores (left - 1 - 1) ≡ slot.At (slot_number t n)
+      before : (p : Parts ws₀ h₀) → 0 < rest → at' ≡ Ok (map.slot_at ws₀ h₀.scores (rest - 1))
       before p b =
-          let i = left - 1 - 1 in
-          let e : i + 1 ≡ left - 1 = omega arith in
-          let q : map.slot_at ws₀ h₀.scores i ≡ slot.At _ = place_taken ws₀ h₀.scores i (omega (arith, f.within)) in
-          let at : map.slot_at ws' h₀.scores (i + 1) ≡ slot.At s = places_then p (i + 1) ∙ ap (map.slot_at ws₀ h₀.scores) e ∙ f.place p more in
-          q ∙ ap slot.At (sym (at_number t _ n (back.answer (scores_then p) i at ∙ places_then p i ∙ q)))
+          let e : rest - 1 + 1 ≡ rest = omega arith in
+          back.answer (scores_then p) (rest - 1) (places_then p (rest - 1 + 1) ∙ ap (map.slot_at ws₀ h₀.scores) e ∙ here p)
+          ∙ ap Ok (places_then p (rest - 1))
+
+-- every record that is still to be entered has a slot
+pub refilling_some : {ws₀ ws : List ℕ} {h₀ h : LazyMinHeap} {left : ℕ} {at : Result (Option ℕ) Unfit} → Refilling ws₀ h₀ ws h left at → 0 < left → ((s : ℕ) → at ≡ Ok (Some s) → ⊥) → Parts ws₀ h₀ → ⊥
+refilling_some {ws₀} {h₀ = h₀} {left = left} f more none p = none _ (f.place p more ∙ ap Ok (place_taken ws₀ h₀.scores (left - 1) (omega (arith, f.count p))))
 
 -- ---- renumbering
 nth_front : (i k : ℕ) (l b : List Record) → i < k → k ≤ length l → nth i (take k l ++ b) ≡ nth i l
@@ -128,9 +125,9 @@ nth_front i (suc k) [] b h g = absurd (omega arith)
 nth_front zero (suc k) (x ∷ l) b h g = refl
 nth_front (suc i) (suc k) (x ∷ l) b h g = nth_front i k l b (omega arith) (omega arith)
 
-take_split : (i : ℕ) (l : List Record) (r : Record) (b : List Record) → nth i l ≡ taken.Record r → take (suc i) l ++ b ≡ take i l ++ (r ∷ b)
+take_split : (i : ℕ) (l : List Record) (r : Record) (b : List Record) → nth i l ≡ Some r → take (suc i) l ++ b ≡ take i l ++ (r ∷ b)
 unfolding nth
-take_split i [] r b q = absurd (let z : ◌≡◌ {A = ℕ} 0 1 = cc in omega arith)
+take_split i [] r b q = cc
 take_split zero (x ∷ l) r b q = let same : x ≡ r = cc in ap (λ (y : Record). y ∷ b) same
 take_split (suc i) (x ∷ l) r b q = ap (λ (m : List Record). x ∷ m) (take_split i l r b q)
 
@@ -163,61 +160,61 @@ payload_middle x r (y ∷ a) b k d = go (eqb y.key x.key) refl (payload_middle x
     go true t ih = absurd (in_middle y r a b (eqb-true _ _ t ∙ sym k) d.0)
     go false t ih = ap (λ (m : List Record). y ∷ m) ih
 
--- so many records still have their old number, and s is the slot of the last of them
-pub record Numbering (ws₀ : List ℕ) (m : LinkedHashMap) (ws : List ℕ) (left number s : ℕ) : Type 0 where
+-- so many records still have their old number, and at tells the slot of the last of them
+pub record Numbering (ws₀ : List ℕ) (m : LinkedHashMap) (ws : List ℕ) (number left : ℕ) (at : Result (Option ℕ) Unfit) : Type 0 where
   pub size : length ws ≡ length ws₀
   pub past : (j : ℕ) → 8 * m.capacity + 58 ≤ j → get_or ws j 0 ≡ get_or ws₀ j 0
   pub within : number + left ≡ m.len
   pub scores : map.IsMap ws₀ m → map.IsMap ws m
   pub places : map.IsMap ws₀ m → (i : ℕ) → map.slot_at ws m i ≡ map.slot_at ws₀ m i
   pub renumbered : map.IsMap ws₀ m → map.model_of ws m ≡ take left (map.model_of ws₀ m) ++ numbered (drop left (map.model_of ws₀ m))
-  pub place : map.IsMap ws₀ m → 0 < left → map.slot_at ws₀ m (left - 1) ≡ slot.At s
+  pub place : map.IsMap ws₀ m → 0 < left → at ≡ Ok (map.slot_at ws₀ m (left - 1))
 
-pub numbering_start : (ws : List ℕ) (m : LinkedHashMap) (t : Slot) (n : ℕ) → Ending ws m (m.len - 1) t → Numbering ws m ws m.len 0 (slot_number t n)
+pub numbering_start : (ws : List ℕ) (m : LinkedHashMap) {at : Result (Option ℕ) Unfit} → Ending ws m (m.len - 1) at → Numbering ws m ws 0 m.len at
 unfolding numbered
-numbering_start ws m t n last = record {
+numbering_start ws m last = record {
   size = refl;
   past = λ j b. refl;
   within = omega arith;
   scores = λ is. is;
   places = λ is i. refl;
   renumbered = λ is. sym (rw (drop_of_length-le (map.model_of ws m) {i = m.len} (omega (arith, model_length ws m)), take_all m.len (map.model_of ws m) (omega (arith, model_length ws m))) (append-nil (map.model_of ws m)));
-  place = λ is b. let q = place_taken ws m (m.len - 1) (omega arith) in q ∙ ap slot.At (sym (at_number t _ n (last.answer is ∙ q)));
+  place = λ is b. last.answer is;
 }
 
 -- one more gets its number
-module _ {ws₀ ws ws' : List ℕ} {m : LinkedHashMap} {left number s : ℕ} (f : Numbering ws₀ m ws left number s) (more : 0 < left) (x : Record) (read : Reading ws m s x) (b : Bool) (write : Writing ws m (record { key = x.key; first = x.first; second = number }) ws' b) (t : Slot) (n : ℕ) (back : Previous ws' m s t) where
+module _ {ws₀ ws ws' : List ℕ} {m : LinkedHashMap} {number left rest : ℕ} {at at' : Result (Option ℕ) Unfit} (f : Numbering ws₀ m ws number left at) (one : suc rest ≡ left) {s : ℕ} (some : at ≡ Ok (Some s)) {x : Record} (read : Reading ws m s x) {b : Bool} (write : Writing ws m (record { key = x.key; first = x.first; second = number }) ws' b) (back : Previous ws' m s at') where
   abbrev y : Record
   y = record { key = x.key; first = x.first; second = number }
 
   abbrev old : List Record
   old = map.model_of ws₀ m
 
+  last_place : map.IsMap ws₀ m → map.slot_at ws₀ m rest ≡ Some s
+  last_place is = let e : left - 1 ≡ rest = omega arith in ap (map.slot_at ws₀ m) (sym e) ∙ told_slot (f.place is (omega arith)) some
+
   -- the record read is the last that has its old number
-  is_last : map.IsMap ws₀ m → nth (left - 1) old ≡ taken.Record x
+  is_last : map.IsMap ws₀ m → nth rest old ≡ Some x
   is_last is =
-      sym (nth_front (left - 1) left old (numbered (drop left old)) (omega arith) (omega (arith, f.within, model_length ws₀ m)))
-      ∙ ap (nth (left - 1)) (sym (f.renumbered is))
-      ∙ read.placed (f.scores is) (left - 1) (f.places is (left - 1) ∙ f.place is more)
+      sym (nth_front rest left old (numbered (drop left old)) (omega arith) (omega (arith, f.within, model_length ws₀ m)))
+      ∙ ap (nth rest) (sym (f.renumbered is))
+      ∙ read.placed (f.scores is) rest (f.places is rest ∙ last_place is)
 
-  now_is : map.IsMap ws₀ m → map.model_of ws m ≡ take (left - 1) old ++ (x ∷ numbered (drop left old))
-  now_is is =
-      let e : suc (left - 1) ≡ left = omega arith in
-      f.renumbered is ∙ ap (λ (k : ℕ). take k old ++ numbered (drop left old)) (sym e) ∙ take_split (left - 1) old x (numbered (drop left old)) (is_last is)
+  now_is : map.IsMap ws₀ m → map.model_of ws m ≡ take rest old ++ (x ∷ numbered (drop left old))
+  now_is is = f.renumbered is ∙ ap (λ (k : ℕ). take k old ++ numbered (drop left old)) (sym one) ∙ take_split rest old x (numbered (drop left old)) (is_last is)
 
-  then_is : map.IsMap ws₀ m → map.model_of ws' m ≡ take (left - 1) old ++ numbered (drop (left - 1) old)
+  then_is : map.IsMap ws₀ m → map.model_of ws' m ≡ take rest old ++ numbered (drop rest old)
   unfolding numbered
   then_is is =
-      let e : suc (left - 1) ≡ left = omega arith in
-      let d : drop (left - 1) old ≡ x ∷ drop left old = nth_drop (left - 1) old x (is_last is) ∙ ap (λ (i : ℕ). x ∷ drop i old) e in
+      let d : drop rest old ≡ x ∷ drop left old = nth_drop rest old x (is_last is) ∙ ap (λ (i : ℕ). x ∷ drop i old) one in
       let c : length (drop left old) ≡ number = omega (arith, length-drop left old, model_length ws₀ m, f.within) in
       write.model (f.scores is)
       ∙ ap (with_payload y) (now_is is)
-      ∙ payload_middle y x (take (left - 1) old) (numbered (drop left old)) refl (rw (now_is is) at (map_distinct (f.scores is)))
-      ∙ ap (λ (k : ℕ). take (left - 1) old ++ (record { key = x.key; first = x.first; second = k } ∷ numbered (drop left old))) (sym c)
-      ∙ ap (λ (l : List Record). take (left - 1) old ++ numbered l) (sym d)
+      ∙ payload_middle y x (take rest old) (numbered (drop left old)) refl (rw (now_is is) at (map_distinct (f.scores is)))
+      ∙ ap (λ (k : ℕ). take rest old ++ (record { key = x.key; first = x.first; second = k } ∷ numbered (drop left old))) (sym c)
+      ∙ ap (λ (l : List Record). take rest old ++ numbered l) (sym d)
 
-  pub numbering_on : Numbering ws₀ m ws' (left - 1) (number + 1) (slot_number t n)
+  pub numbering_on : Numbering ws₀ m ws' (number + 1) rest at'
   numbering_on = record {
     size = write.kept.size ∙ f.size;
     past = λ j g. write.kept.past j g ∙ f.past j g;
@@ -228,10 +225,11 @@ module _ {ws₀ ws ws' : List ℕ} {m : LinkedHashMap} {left number s : ℕ} (f 
     place = before;
   }
     where
-      before : (is : map.IsMap ws₀ m) → 0 < left - 1 → map.slot_at ws₀ m (left - 1 - 1) ≡ slot.At (slot_number t n)
+      before : (is : map.IsMap ws₀ m) → 0 < rest → at' ≡ Ok (map.slot_at ws₀ m (rest - 1))
       before is g =
-          let i = left - 1 - 1 in
-          let e : i + 1 ≡ left - 1 = omega arith in
-          let q : map.slot_at ws₀ m i ≡ slot.At _ = place_taken ws₀ m i (omega (arith, f.within)) in
-          let at : map.slot_at ws' m (i + 1) ≡ slot.At s = write.slots (f.scores is) (i + 1) ∙ f.places is (i + 1) ∙ ap (map.slot_at ws₀ m) e ∙ f.place is more in
-          q ∙ ap slot.At (sym (at_number t _ n (back.answer (write.map (f.scores is)) i at ∙ write.slots (f.scores is) i ∙ f.places is i ∙ q)))
+          let e : rest - 1 + 1 ≡ rest = omega arith in
+          let now : map.slot_at ws' m (rest - 1 + 1) ≡ Some s = write.slots (f.scores is) (rest - 1 + 1) ∙ f.places is (rest - 1 + 1) ∙ ap (map.slot_at ws₀ m) e ∙ last_place is in
+          back.answer (write.map (f.scores is)) (rest - 1) now ∙ ap Ok (write.slots (f.scores is) (rest - 1) ∙ f.places is (rest - 1))
+
+pub numbering_some : {ws₀ ws : List ℕ} {m : LinkedHashMap} {number left : ℕ} {at : Result (Option ℕ) Unfit} → Numbering ws₀ m ws number left at → 0 < left → ((s : ℕ) → at ≡ Ok (Some s) → ⊥) → map.IsMap ws₀ m → ⊥
+numbering_some {ws₀} {m = m} {left = left} f more none is = none _ (f.place is more ∙ ap Ok (place_taken ws₀ m (left - 1) (omega (arith, f.within))))

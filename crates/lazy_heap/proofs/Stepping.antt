@@ -8,6 +8,7 @@ use native.Mathlib.Omega.{arith}
 use lib.Dec.{ltb, leb}
 use lib.ListN.{length, take, drop}
 use borrow.Author.Tests.{eq-eqb, ne_eqb, lt-ltb, le-leb}
+use Rattle.std.specs.Prelude.{Option, None, Some, Result, Ok, Err, min}
 use Rattle.binary_heap.specs.declared.entries.Entry.{Entry}
 use Rattle.binary_heap.specs.Order.{insert, sort}
 use Rattle.binary_heap.specs.Heap as array
@@ -16,28 +17,20 @@ use Rattle.binary_heap.proofs.Laws.{model_length as array-length}
 use Rattle.rings.proofs.Counts.{by_lt}
 use Rattle.linked_hash_map.specs.declared.map.LinkedHashMap.{LinkedHashMap}
 use Rattle.linked_hash_map.specs.declared.map.Record.{Record}
-use Rattle.linked_hash_map.specs.declared.map.Put.{Put}
-use Rattle.linked_hash_map.specs.declared.map.Placed.{Placed}
-use Rattle.linked_hash_map.specs.declared.map.Placed.TheVariants as placed
-use Rattle.linked_hash_map.specs.declared.map.Taken.{Taken}
-use Rattle.linked_hash_map.specs.declared.map.Taken.TheVariants as taken
+use Rattle.linked_hash_map.specs.declared.map.PutError.TheVariants.{Full}
+use Rattle.linked_hash_map.specs.declared.map.Unfit.{Unfit}
 use Rattle.linked_hash_map.specs.Model as scores
 use Rattle.linked_hash_map.specs.Map as map
 use Rattle.linked_hash_map.specs.Calls.{Putting}
 use Rattle.linked_hash_map.proofs.Putting.{model_length}
 use Rattle.lazy_heap.specs.declared.heap.LazyMinHeap.{LazyMinHeap}
-use Rattle.lazy_heap.specs.declared.heap.Stored.{Stored}
-use Rattle.lazy_heap_model.specs.declared.scores.Score.{Score}
-use Rattle.lazy_heap_model.specs.declared.scores.Score.TheVariants as score
-use Rattle.time.specs.declared.refusal.Outcome.TheVariants.{Done}
-use Rattle.lazy_heap.specs.Answers.{of_score}
 use Rattle.lazy_heap.specs.Words.{words_for, start, part, Kept}
 use Rattle.lazy_heap_model.specs.Model.{Heap, entry_of, at_least_one, live_entries, surplus, too_many, rebuilt, numbered, renumbered, is_full, before_push, pushed, maybe_rebuilt, held_score}
 use Rattle.lazy_heap.specs.Heap.{held_of, entries_of, model_of, Parts}
-use Rattle.lazy_heap.specs.Steps.{after, replaced_score, Storing, Crowding, Pushing, Rebuilding, Numbered, Renumbering, Fitting, Trimming, Holding}
+use Rattle.lazy_heap.specs.Steps.{replaced_score, Storing, Pushing, Rebuilding, Numbered, Renumbering, Fitting, Trimming, Holding}
 use Rattle.lazy_heap.proofs.Parts.{part_same}
 use Rattle.lazy_heap.proofs.Settling.{entered_same}
-use Rattle.lazy_heap.proofs.Refilling.{Refilling, Numbering}
+use Rattle.lazy_heap.proofs.Refilling.{Refilling, refilling_some, Numbering, numbering_some}
 
 abbrev of : ℕ → ℕ → ℕ → List Record → List Entry → Heap
 of l f n h e = record { limit = l; factor = f; next = n; held = h; entries = e }
@@ -55,8 +48,9 @@ emptied h = record { scores = h.scores; entries = 0; seq = h.seq; factor = h.fac
 parts_emptied : {ws : List ℕ} {h : LazyMinHeap} → Parts ws h → Parts ws (emptied h)
 parts_emptied {ws} {h} p = record { room = p.room; scores = p.scores; entries = heap_none (part h.scores.capacity ws) }
 
-pub rebuilding : {ws ws' : List ℕ} (h : LazyMinHeap) {r : LazyMinHeap} {left s : ℕ} → Refilling ws (emptied h) ws' r left s → left ≤ 0 → Rebuilding ws h ws' r
-rebuilding {ws} h {r} {left} f none = record {
+-- where the walk has come to its end, as it does on the parts of a heap
+pub rebuilding : {ws ws' : List ℕ} {h h' : LazyMinHeap} {left : ℕ} {at : Result (Option ℕ) Unfit} → Refilling ws (emptied h) ws' h' left at → (Parts ws h → left ≡ 0) → Rebuilding ws h ws' h'
+rebuilding {ws} {h = h} f none = record {
   entered = record {
     scores = f.entered.scores;
     seq = f.entered.seq;
@@ -65,55 +59,51 @@ rebuilding {ws} h {r} {left} f none = record {
     places = λ p. f.entered.places (parts_emptied p);
     kept = f.entered.kept;
   };
-  count = λ p. omega (arith, f.count (parts_emptied p));
+  count = λ p. omega (arith, f.count (parts_emptied p), none p);
   parts = λ p. f.parts (parts_emptied p);
-  entries = λ p. let z : left ≡ 0 = omega arith in f.filled (parts_emptied p) ∙ ap (λ (i : ℕ). sort (map entry_of (drop i (held_of ws h)))) z;
+  entries = λ p. f.filled (parts_emptied p) ∙ ap (λ (i : ℕ). sort (map entry_of (drop i (held_of ws h)))) (none p);
 }
 
--- no heap holds more keys than its limit
-pub rebuilding_none : (ws : List ℕ) (h : LazyMinHeap) → h.scores.capacity < h.scores.len → Rebuilding ws h ws h
-rebuilding_none ws h over = record {
-  entered = entered_same ws h;
-  count = λ p. absurd (omega (arith, p.scores.count));
-  parts = λ p. p;
-  entries = λ p. absurd (omega (arith, p.scores.count));
-}
+-- where it finds no slot, which it does on no parts
+pub rebuilding_lost : {ws ws' : List ℕ} {h h' : LazyMinHeap} {left : ℕ} {at : Result (Option ℕ) Unfit} → Refilling ws (emptied h) ws' h' left at → 0 < left → ((s : ℕ) → at ≡ Ok (Some s) → ⊥) → Rebuilding ws h ws' h'
+rebuilding_lost f more none = rebuilding f (λ p. absurd (refilling_some f more none (parts_emptied p)))
 
 -- ---- renumbering
-pub numbering_none : (ws : List ℕ) (m : LinkedHashMap) → m.capacity < m.len → Numbered ws m ws m.len
-numbering_none ws m over = record { number = refl; scores = λ is. is; held = λ is. absurd (omega (arith, is.count)); size = refl; past = λ j g. refl }
+pub numbering : {ws ws' : List ℕ} {m : LinkedHashMap} {number left : ℕ} {at : Result (Option ℕ) Unfit} → Numbering ws m ws' number left at → (map.IsMap ws m → left ≡ 0) → Numbered ws m ws'
+numbering {ws} {ws'} {m} f none = record {
+  scores = f.scores;
+  held = λ is. f.renumbered is ∙ ap (λ (i : ℕ). take i (map.model_of ws m) ++ numbered (drop i (map.model_of ws m))) (none is);
+  size = f.size;
+  past = f.past;
+}
 
-pub numbering : {ws ws' : List ℕ} {m : LinkedHashMap} {left number s : ℕ} → Numbering ws m ws' left number s → left ≤ 0 → Numbered ws m ws' number
-numbering {ws} {ws'} {m} {left} {number} f none =
-    let z : left ≡ 0 = omega arith in record {
-      number = omega (arith, f.within);
-      scores = f.scores;
-      held = λ is. f.renumbered is ∙ ap (λ (i : ℕ). take i (map.model_of ws m) ++ numbered (drop i (map.model_of ws m))) z;
-      size = f.size;
-      past = f.past;
-    }
+pub numbering_lost : {ws ws' : List ℕ} {m : LinkedHashMap} {number left : ℕ} {at : Result (Option ℕ) Unfit} → Numbering ws m ws' number left at → 0 < left → ((s : ℕ) → at ≡ Ok (Some s) → ⊥) → Numbered ws m ws'
+numbering_lost f more none = numbering f (λ is. absurd (numbering_some f more none is))
 
 -- scores renumbered leave the entries as they are
-parts_numbered : {ws ws' : List ℕ} {h : LazyMinHeap} {s : ℕ} → Numbered ws h.scores ws' s → (e : ℕ) → Parts ws h → Parts ws' (record { scores = h.scores; entries = h.entries; seq = e; factor = h.factor })
-parts_numbered {ws} {ws'} {h} n e p =
+abbrev numbered_heap : LazyMinHeap → LazyMinHeap
+numbered_heap h = record { scores = h.scores; entries = h.entries; seq = h.scores.len; factor = h.factor }
+
+parts_numbered : {ws ws' : List ℕ} {h : LazyMinHeap} → Numbered ws h.scores ws' → Parts ws h → Parts ws' (numbered_heap h)
+parts_numbered {ws} {ws'} {h} n p =
     let n' = h.scores.capacity in record {
       room = rw n.size p.room;
       scores = n.scores p.scores;
       entries = rw (part_same ws ws' (start n') (words_for n' - start n') n.size (λ j a b. n.past j a)) p.entries;
     }
 
-pub renumbering : {ws ws₁ ws' : List ℕ} {h r : LazyMinHeap} {s : ℕ} → Numbered ws h.scores ws₁ s → Rebuilding ws₁ (record { scores = h.scores; entries = h.entries; seq = s; factor = h.factor }) ws' r → Renumbering ws h ws' r
+pub renumbering : {ws ws₁ ws' : List ℕ} {h h' : LazyMinHeap} → Numbered ws h.scores ws₁ → Rebuilding ws₁ (numbered_heap h) ws' h' → Renumbering ws h ws' h'
 unfolding renumbered
-renumbering {ws} {ws₁} {ws'} {h} {r} {s} n b = record {
+renumbering {ws} {ws₁} {ws'} {h} {h'} n b = record {
   scores = b.entered.scores;
   factor = b.entered.factor;
-  parts = λ p. b.parts (parts_numbered n s p);
+  parts = λ p. b.parts (parts_numbered n p);
   model = λ p.
-      let q = parts_numbered n s p in
-      let a : r.scores.capacity ≡ h.scores.capacity = same_capacity b.entered.scores in
-      let c : r.seq ≡ length (held_of ws h) = b.entered.seq ∙ n.number ∙ sym (model_length ws h.scores) in
-      let d : held_of ws' r ≡ numbered (held_of ws h) = b.entered.held q ∙ n.held p.scores in
-      let e : entries_of ws' r ≡ live_entries (numbered (held_of ws h)) = b.entries q ∙ ap live_entries (n.held p.scores) in
+      let q = parts_numbered n p in
+      let a : h'.scores.capacity ≡ h.scores.capacity = same_capacity b.entered.scores in
+      let c : h'.seq ≡ length (held_of ws h) = b.entered.seq ∙ sym (model_length ws h.scores) in
+      let d : held_of ws' h' ≡ numbered (held_of ws h) = b.entered.held q ∙ n.held p.scores in
+      let e : entries_of ws' h' ≡ live_entries (numbered (held_of ws h)) = b.entries q ∙ ap live_entries (n.held p.scores) in
       same_heap a b.entered.factor c d e;
   kept = record {
     size = b.entered.kept.size ∙ n.size;
@@ -135,84 +125,77 @@ surplus_is ws h =
 pub kept_same : (n : ℕ) (ws : List ℕ) → Kept n ws ws
 kept_same n ws = record { size = refl; past = λ j g. refl }
 
-pub fitting_renumbered : {ws ws' : List ℕ} {h r : LazyMinHeap} {d : ℕ} → h.seq ≡ 2 ^ 64 - 1 → Renumbering ws h ws' r → d ≡ h.entries - h.scores.len → Fitting ws h ws' (record { heap = r; discarded = d })
-unfolding before_push
-fitting_renumbered {ws} {ws'} {h} e n d = record {
-  word = omega arith;
-  same = λ not. absurd (not e);
-  capacity = same_capacity n.scores;
-  parts = n.parts;
-  model = λ p. n.model p ∙ sym (rw (eq-eqb h.seq (2 ^ 64 - 1) e));
-  discarded = λ p. d ∙ sym (rw (eq-eqb h.seq (2 ^ 64 - 1) e) (surplus_is ws h));
-  small = omega arith;
-  kept = n.kept;
-}
+module _ {ws : List ℕ} {h : LazyMinHeap} (word : h.seq < 2 ^ 64) where
+  pub fitting_renumbered : {ws' : List ℕ} {h' : LazyMinHeap} {d : ℕ} → 2 ^ 64 - 1 ≤ h.seq → Renumbering ws h ws' h' → d ≡ h.entries - h.scores.len → Fitting ws h ws' h' d
+  unfolding before_push
+  fitting_renumbered last n d =
+      let e : h.seq ≡ 2 ^ 64 - 1 = omega arith in record {
+        word = word;
+        same = λ more. absurd (omega arith);
+        capacity = same_capacity n.scores;
+        factor = n.factor;
+        parts = n.parts;
+        model = λ p. n.model p ∙ sym (rw (eq-eqb h.seq (2 ^ 64 - 1) e));
+        discarded = λ p. d ∙ sym (rw (eq-eqb h.seq (2 ^ 64 - 1) e) (surplus_is ws h));
+        small = omega arith;
+        kept = n.kept;
+      }
 
-pub fitting_same : (ws : List ℕ) (h : LazyMinHeap) → (h.seq ≡ 2 ^ 64 - 1 → ⊥) → h.seq < 2 ^ 64 → Fitting ws h ws (record { heap = h; discarded = 0 })
-unfolding before_push
-fitting_same ws h e w = record {
-  word = w;
-  same = λ not. (refl, refl);
-  capacity = refl;
-  parts = λ p. p;
-  model = λ p. sym (rw (ne_eqb h.seq (2 ^ 64 - 1) e));
-  discarded = λ p. sym (rw (ne_eqb h.seq (2 ^ 64 - 1) e));
-  small = omega arith;
-  kept = kept_same h.scores.capacity ws;
-}
+  pub fitting_same : h.seq < 2 ^ 64 - 1 → Fitting ws h ws h 0
+  unfolding before_push
+  fitting_same more = record {
+    word = word;
+    same = λ _. (refl, refl);
+    capacity = refl;
+    factor = refl;
+    parts = λ p. p;
+    model = λ p. sym (rw (ne_eqb h.seq (2 ^ 64 - 1) (λ q. omega arith)));
+    discarded = λ p. sym (rw (ne_eqb h.seq (2 ^ 64 - 1) (λ q. omega arith)));
+    small = omega arith;
+    kept = kept_same h.scores.capacity ws;
+  }
 
-module _ {ws : List ℕ} {h : LazyMinHeap} {f : ℕ} {b : Bool} (c : Crowding f h.entries h.scores.len b) where
-  crowded : Parts ws h → f ≤ 8 → too_many f (model_of ws h) ≡ b
-  crowded p g =
+module _ (ws : List ℕ) (h : LazyMinHeap) (f : ℕ) {b : Bool} (c : ltb (at_least_one f * h.scores.len) h.entries ≡ b) where
+  crowded : too_many f (model_of ws h) ≡ b
+  crowded =
       ap (λ (n : ℕ). ltb (at_least_one f * n) (length (entries_of ws h))) (model_length ws h.scores)
       ∙ ap (λ (n : ℕ). ltb (at_least_one f * h.scores.len) n) (array-length (part h.scores.capacity ws) h.entries)
-      ∙ sym (c.answer g (omega (arith, p.scores.count, p.room.limit)))
+      ∙ c
 
-  pub trimming_rebuilt : {ws' : List ℕ} {r : LazyMinHeap} {d : ℕ} → b ≡ true → Rebuilding ws h ws' r → d ≡ h.entries - h.scores.len → Trimming ws h f ws' (record { heap = r; discarded = d })
+  pub trimming_rebuilt : {ws' : List ℕ} {h' : LazyMinHeap} {d : ℕ} → b ≡ true → Rebuilding ws h ws' h' → d ≡ h.entries - h.scores.len → Trimming ws h f ws' h' d
   unfolding maybe_rebuilt
   trimming_rebuilt t k d = record {
     scores = k.entered.scores;
     parts = k.parts;
-    model = λ p g. rebuilt_model k p ∙ sym (ap (λ (u : Bool). cond u (rebuilt (model_of ws h)) (model_of ws h)) (crowded p g ∙ t));
-    discarded = λ p g. d ∙ sym (surplus_is ws h) ∙ sym (ap (λ (u : Bool). cond u (surplus (model_of ws h)) 0) (crowded p g ∙ t));
+    model = λ p. rebuilt_model k p ∙ sym (ap (λ (u : Bool). cond u (rebuilt (model_of ws h)) (model_of ws h)) (crowded ∙ t));
+    discarded = λ p. d ∙ sym (surplus_is ws h) ∙ sym (ap (λ (u : Bool). cond u (surplus (model_of ws h)) 0) (crowded ∙ t));
     small = omega arith;
     kept = k.entered.kept;
   }
 
-  pub trimming_same : b ≡ false → Trimming ws h f ws (record { heap = h; discarded = 0 })
+  pub trimming_same : b ≡ false → Trimming ws h f ws h 0
   unfolding maybe_rebuilt
   trimming_same t = record {
     scores = refl;
     parts = λ p. p;
-    model = λ p g. sym (ap (λ (u : Bool). cond u (rebuilt (model_of ws h)) (model_of ws h)) (crowded p g ∙ t));
-    discarded = λ p g. sym (ap (λ (u : Bool). cond u (surplus (model_of ws h)) 0) (crowded p g ∙ t));
+    model = λ p. sym (ap (λ (u : Bool). cond u (rebuilt (model_of ws h)) (model_of ws h)) (crowded ∙ t));
+    discarded = λ p. sym (ap (λ (u : Bool). cond u (surplus (model_of ws h)) 0) (crowded ∙ t));
     small = omega arith;
     kept = kept_same h.scores.capacity ws;
   }
 
 -- ---- a key is set
-after_next : (n : ℕ) → n < 2 ^ 64 - 1 → after n ≡ n + 1
-unfolding after
-after_next n h = rw (lt-ltb n (2 ^ 64 - 1) h)
-
 placing_score : (n : ℕ) (x : Record) (l : List Record) → replaced_score (scores.placing n x l) ≡ held_score (scores.lookup x.key l)
 unfolding scores.placing
 placing_score n x l = go (scores.lookup x.key l) refl
   where
-    none : (b : Bool) → replaced_score (cond b placed.Inserted placed.Full) ≡ score.Nothing
+    none : (b : Bool) → replaced_score (cond b (Ok None) (Err Full)) ≡ None
     none true = refl
     none false = refl
 
-    go : (t : Taken) → scores.lookup x.key l ≡ t → replaced_score (scores.placing n x l) ≡ held_score (scores.lookup x.key l)
-    go (taken.Record r) q = rw q refl
-    go taken.Nothing q = rw q (none (ltb (length l) n))
-    go taken.Refused q = rw q refl
-
-replaced_accepted : (p : Placed) → of_score (replaced_score p) ≡ Done
-replaced_accepted (placed.Replaced r) = refl
-replaced_accepted placed.Inserted = refl
-replaced_accepted placed.Full = refl
-replaced_accepted placed.Refused = refl
+    go : (t : Option Record) → scores.lookup x.key l ≡ t → replaced_score (scores.placing n x l) ≡ held_score (scores.lookup x.key l)
+    go (Some r) q = rw q refl
+    go None q = rw q (none (ltb (length l) n))
 
 module _ (k : ℕ) (l : List Record) (n : ℕ) where
   -- not full: the key is held, or there is room for another
@@ -224,18 +207,17 @@ module _ (k : ℕ) (l : List Record) (n : ℕ) where
       go false (inl h) q = lt-ltb (length l) n h
       go false (inr h) q = absurd (true≢false (sym (le-leb n (length l) h) ∙ q))
 
--- the numbers of the scores, one by one
-pub stored_scores : {ws ws' : List ℕ} {m : LinkedHashMap} {x : Record} {r : Stored} (o : Storing ws m x ws' r) → ◌≡◌ {A = LinkedHashMap} (record { capacity = m.capacity; len = r.len; refill_in = r.refill_in }) o.put.map
-stored_scores o = λ i. record { capacity = sym o.putting.capacity i; len = o.len i; refill_in = o.refill i }
-
-module _ {ws ws₁ ws' : List ℕ} {h r : LazyMinHeap} {k s : ℕ} (p : Put) (put : Putting ws h.scores (record { key = k; first = s; second = h.seq }) ws₁ p) (push : Pushing ws₁ (record { scores = p.map; entries = h.entries; seq = after h.seq; factor = h.factor }) (record { score = s; seq = h.seq; key = k }) ws' r) where
+module _ {ws ws₁ ws' : List ℕ} {h h' : LazyMinHeap} {k s next : ℕ} {m : LinkedHashMap} {a : Option ℕ} (o : Storing ws h.scores (record { key = k; first = s; second = h.seq }) ws₁ m a) (push : Pushing ws₁ (record { scores = m; entries = h.entries; seq = next; factor = h.factor }) (record { score = s; seq = h.seq; key = k }) ws' h') where
   abbrev x : Record
   x = record { key = k; first = s; second = h.seq }
 
   abbrev h₁ : LazyMinHeap
-  h₁ = record { scores = p.map; entries = h.entries; seq = after h.seq; factor = h.factor }
+  h₁ = record { scores = m; entries = h.entries; seq = next; factor = h.factor }
 
-  part_kept : Parts ws h → part p.map.capacity ws₁ ≡ part h.scores.capacity ws
+  abbrev put : Putting ws h.scores x ws₁ m o.put
+  put = o.putting
+
+  part_kept : Parts ws h → part m.capacity ws₁ ≡ part h.scores.capacity ws
   part_kept q =
       let n = h.scores.capacity in
       ap (λ (c : ℕ). part c ws₁) put.capacity ∙ part_same ws ws₁ (start n) (words_for n - start n) put.kept.size (λ j a b. put.kept.past j a)
@@ -250,30 +232,27 @@ module _ {ws ws₁ ws' : List ℕ} {h r : LazyMinHeap} {k s : ℕ} (p : Put) (pu
   few_put : h.entries ≤ 8 * h.scores.capacity → h₁.entries ≤ 8 * h₁.scores.capacity
   few_put g = rw put.capacity g
 
-  held_put : Parts ws h → is_full k (model_of ws h) ≡ false → map.model_of ws₁ p.map ≡ x ∷ scores.without k (held_of ws h)
+  held_put : Parts ws h → is_full k (model_of ws h) ≡ false → map.model_of ws₁ m ≡ x ∷ scores.without k (held_of ws h)
   unfolding is_full scores.put
   held_put q e = put.model q.scores ∙ rw (room_or_held k (held_of ws h) h.scores.capacity e)
 
-  pub holding : {a : Score} → a ≡ replaced_score p.answer → Holding ws h k s ws' (record { heap = r; answer = a })
+  pub holding : next ≡ min (h.seq + 1) (2 ^ 64 - 1) → Holding ws h k s ws' h' a
   unfolding pushed
-  holding {a} e = record {
+  holding e = record {
     capacity = same_capacity push.entered.scores ∙ put.capacity;
     factor = push.entered.factor;
     parts = λ q g. push.parts (parts_put q) (few_put g);
     model = λ q g f b.
+        let one : next ≡ h.seq + 1 = omega arith in
         same_heap
         (same_capacity push.entered.scores ∙ put.capacity)
         push.entered.factor
-        (push.entered.seq ∙ after_next h.seq b)
+        (push.entered.seq ∙ one)
         (push.entered.held (parts_put q) ∙ held_put q f)
         (push.entries (parts_put q) (few_put g) ∙ ap (λ (ys : List ℕ). insert (entry_of x) (array.model_of ys h.entries)) (part_kept q));
-    accepted = ap of_score e ∙ replaced_accepted p.answer;
-    answer = λ q f. e ∙ ap replaced_score (put.answer q.scores) ∙ answer_put q f;
+    answer = λ q f. o.answer ∙ ap replaced_score (put.answer q.scores) ∙ placing_score h.scores.capacity x (held_of ws h);
     kept = record {
       size = push.entered.kept.size ∙ put.kept.size;
       past = λ j g. push.entered.kept.past j (rw put.capacity g) ∙ put.kept.past j (omega arith);
     };
   }
-    where
-      answer_put : Parts ws h → is_full k (model_of ws h) ≡ false → replaced_score (scores.placing h.scores.capacity x (held_of ws h)) ≡ held_score (scores.lookup k (held_of ws h))
-      answer_put q f = placing_score h.scores.capacity x (held_of ws h)

@@ -8,6 +8,7 @@ use native.Mathlib.Omega.{arith}
 use lib.ListN.{length, get_or, set, length-set}
 use lib.Seq.{get_or-set_same, get_or-set_other}
 use borrow.Author.Tests.{eq-eqb, ne_eqb}
+use Rattle.std.specs.Prelude.{Option, None, Some}
 use Rattle.binary_heap.specs.declared.entries.Entry.{Entry}
 use Rattle.binary_heap.specs.Order.{is as isEntry, count}
 use Rattle.binary_heap.specs.Entries.{entry_at, entries_of}
@@ -20,9 +21,6 @@ use Rattle.binary_heap.proofs.Laws.{model_none, model_count, model_place, place_
 use Rattle.rings.proofs.Counts.{by_lt}
 use Rattle.linked_hash_map.specs.declared.map.LinkedHashMap.{LinkedHashMap}
 use Rattle.linked_hash_map.specs.declared.map.Record.{Record}
-use Rattle.linked_hash_map.specs.declared.map.Slot.{Slot}
-use Rattle.linked_hash_map.specs.declared.map.Slot.TheVariants as slot
-use Rattle.linked_hash_map.specs.declared.map.Taken.TheVariants as taken
 use Rattle.linked_hash_map.specs.Map as map
 use Rattle.linked_hash_map.proofs.Laws.{slot_key, slot_below, map_distinct}
 use Rattle.lazy_heap.specs.Words.{part}
@@ -30,48 +28,38 @@ use Rattle.lazy_heap_model.specs.Model.{entry_of, live}
 use Rattle.lazy_heap.specs.Walks.{LivingAt, one_more, seen, Tallied, Blank, Tallying}
 use Rattle.lazy_heap.proofs.Helds.{lookup_mem, held_live, live_held}
 
-pub seen_length : (t : List ℕ) (r : Slot) → length (seen t r) ≡ length t
-seen_length t (slot.At s) = length-set t s (one_more (get_or t s 0))
-seen_length t slot.Nothing = refl
-seen_length t slot.Refused = refl
-
--- one more is seen
-more : (n c : ℕ) → n ≡ min c 2 → one_more n ≡ min (c + 1) 2
-more n c e = go (ℕ_discrete n 0)
-  where
-    go : Dec (n ≡ 0) → one_more n ≡ min (c + 1) 2
-    go (yes z) = rw (eq-eqb n 0 z) (omega arith)
-    go (no z) = rw (ne_eqb n 0 z) (omega arith)
+pub seen_length : (t : List ℕ) (r : Option ℕ) → length (seen t r) ≡ length t
+seen_length t (Some s) = length-set t s (one_more (get_or t s 0))
+seen_length t None = refl
 
 module _ {ws : List ℕ} {m : LinkedHashMap} (is : map.IsMap ws m) where
   -- a live entry is that of the record whose slot it has
-  entry_there : (e : Entry) (r : Record) (s : ℕ) → Memᴰ r (map.model_of ws m) → live (map.model_of ws m) e ≡ true → map.slot_of ws m e.key ≡ slot.At s → map.slot_of ws m r.key ≡ slot.At s → entry_of r ≡ e
+  entry_there : (e : Entry) (r : Record) (s : ℕ) → Memᴰ r (map.model_of ws m) → live (map.model_of ws m) e ≡ true → map.slot_of ws m e.key ≡ Some s → map.slot_of ws m r.key ≡ Some s → entry_of r ≡ e
   entry_there e r s q l a b =
       let o = live_held (map.model_of ws m) e l in
       let k : o.0.key ≡ r.key = ap (λ (y : Entry). y.key) o.1.1 ∙ slot_key ws m e.key r.key s a b in
-      let p : taken.Record o.0 ≡ taken.Record r = sym (lookup_mem (map.model_of ws m) (map_distinct is) o.0 o.1.0) ∙ rw k (lookup_mem (map.model_of ws m) (map_distinct is) r q) in
+      let p : Some o.0 ≡ Some r = sym (lookup_mem (map.model_of ws m) (map_distinct is) o.0 o.1.0) ∙ rw k (lookup_mem (map.model_of ws m) (map_distinct is) r q) in
       let x : o.0 ≡ r = cc in
       ap entry_of (sym x) ∙ o.1.1
 
-  module _ (e : Entry) (at : Slot) (living : LivingAt ws m e at) (t : List ℕ) (enough : m.capacity ≤ length t) where
+  module _ (e : Entry) (at : Option ℕ) (living : LivingAt ws m e at) (t : List ℕ) (enough : m.capacity ≤ length t) where
     -- the word of a record's slot counts one more where the entry is the record's
-    seen_there : (r : Record) → Memᴰ r (map.model_of ws m) → (s c : ℕ) → map.slot_of ws m r.key ≡ slot.At s → get_or t s 0 ≡ min c 2 → get_or (seen t at) s 0 ≡ min (c + isEntry (entry_of r) e) 2
+    seen_there : (r : Record) → Memᴰ r (map.model_of ws m) → (s c : ℕ) → map.slot_of ws m r.key ≡ Some s → get_or t s 0 ≡ min c 2 → get_or (seen t at) s 0 ≡ min (c + isEntry (entry_of r) e) 2
     seen_there r q s c b n = go at refl (which (entry_of r) e)
       where
         stale : live (map.model_of ws m) e ≡ false → entry_of r ≡ e → ⊥
         stale l p = true≢false (sym (held_live (map.model_of ws m) (map_distinct is) r q) ∙ ap (live (map.model_of ws m)) p ∙ l)
 
-        at_slot : (x : ℕ) → at ≡ slot.At x → Dec (s ≡ x) → Is (entry_of r) e → get_or (set t x (one_more (get_or t x 0))) s 0 ≡ min (c + isEntry (entry_of r) e) 2
-        at_slot x u (yes z) (same p one) = rw (sym z, one) (get_or-set_same t s (one_more (get_or t s 0)) 0 (omega (arith, slot_below is r.key s b)) ∙ more (get_or t s 0) c n)
-        at_slot x u (yes z) (other p none) = absurd (let f = living.found is x u in p (entry_there e r s q f.0 (f.1 ∙ ap slot.At (sym z)) b))
-        at_slot x u (no z) (same p one) = absurd (z (let f : slot.At s ≡ slot.At x = sym b ∙ ap (λ (y : Entry). map.slot_of ws m y.key) p ∙ (living.found is x u).1 in cc))
+        at_slot : (x : ℕ) → at ≡ Some x → Dec (s ≡ x) → Is (entry_of r) e → get_or (set t x (one_more (get_or t x 0))) s 0 ≡ min (c + isEntry (entry_of r) e) 2
+        at_slot x u (yes z) (same p one) = rw (sym z, one) (get_or-set_same t s (one_more (get_or t s 0)) 0 (omega (arith, slot_below is r.key s b)) ∙ omega (arith, n))
+        at_slot x u (yes z) (other p none) = absurd (let f = living.found is x u in p (entry_there e r s q f.0 (f.1 ∙ ap Some (sym z)) b))
+        at_slot x u (no z) (same p one) = absurd (z (let f : Some s ≡ Some x = sym b ∙ ap (λ (y : Entry). map.slot_of ws m y.key) p ∙ (living.found is x u).1 in cc))
         at_slot x u (no z) (other p none) = rw none (get_or-set_other t x s (one_more (get_or t x 0)) 0 z ∙ n ∙ omega arith)
 
-        go : (x : Slot) → at ≡ x → Is (entry_of r) e → get_or (seen t x) s 0 ≡ min (c + isEntry (entry_of r) e) 2
-        go (slot.At x) u w = at_slot x u (ℕ_discrete s x) w
-        go slot.Nothing u (same p one) = absurd (stale (living.stale is u) p)
-        go slot.Nothing u (other p none) = rw none (n ∙ omega arith)
-        go slot.Refused u w = absurd (living.never is u)
+        go : (x : Option ℕ) → at ≡ x → Is (entry_of r) e → get_or (seen t x) s 0 ≡ min (c + isEntry (entry_of r) e) 2
+        go (Some x) u w = at_slot x u (ℕ_discrete s x) w
+        go None u (same p one) = absurd (stale (living.stale is u) p)
+        go None u (other p none) = rw none (n ∙ omega arith)
 
 pub entry_read : {es : List ℕ} {n i : ℕ} {e : Entry} → i < n → entries.Reading es n i e → array.IsHeap es n → e ≡ entry_at es i
 entry_read {es} {n} b r h = r.answer (room_fits h.room) b
@@ -105,7 +93,7 @@ module _ {ws : List ℕ} {m : LinkedHashMap} {n next : ℕ} {t₀ : List ℕ} {i
     tallied = λ h is z q. absurd (true≢false (sym q));
   }
 
-  pub tally_on : e.seq < next → (at : Slot) → LivingAt ws m e at → Tally ws m n next t₀ (i + 1) (seen t at)
+  pub tally_on : e.seq < next → (at : Option ℕ) → LivingAt ws m e at → Tally ws m n next t₀ (i + 1) (seen t at)
   tally_on b at living = record {
     within = omega arith;
     size = seen_length t at ∙ y.size;

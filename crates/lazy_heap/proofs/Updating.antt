@@ -9,36 +9,32 @@ use native.Mathlib.Nat.{mul-le-mul}
 use lib.Dec.{eqb, leb}
 use lib.ListN.{length}
 use borrow.Author.Tests.{lt-ltb, le-leb, eqb-false}
+use Rattle.std.specs.Prelude.{Option, None, Some, Ok, Err, min}
 use Rattle.limits.specs.Limits.{heap_limits}
+use Rattle.cells.specs.declared.Probe.{Probe}
+use Rattle.cells.specs.declared.Probe.TheVariants.{At, Free, Full}
 use Rattle.rings.proofs.Counts.{by_lt}
 use Rattle.binary_heap.proofs.Laws.{insert_length}
 use Rattle.binary_heap.proofs.Laws.{model_length as array-length}
 use Rattle.linked_hash_map.specs.declared.map.Record.{Record}
-use Rattle.linked_hash_map.specs.declared.map.Place.{Place}
-use Rattle.linked_hash_map.specs.declared.map.Place.TheVariants as place
-use Rattle.linked_hash_map.specs.declared.map.Taken.TheVariants as taken
 use Rattle.linked_hash_map.specs.Model.{has, lookup, without}
 use Rattle.linked_hash_map.specs.Calls.{place_of}
-use Rattle.linked_hash_map.proofs.Probed.{free_not_at, hit, miss}
-use Rattle.linked_hash_map.proofs.Places.{at_place, free_place, full_no_map, refused_no_map}
+use Rattle.linked_hash_map.proofs.Probed.{free_not_at, hit, miss, ends}
+use Rattle.linked_hash_map.proofs.Places.{full_no_map}
 use Rattle.linked_hash_map.proofs.Putting.{model_length}
 use Rattle.time.specs.declared.refusal.Refusal.{Refusal}
 use Rattle.time.specs.declared.refusal.Refusal.TheVariants.{KeyLimitReached}
-use Rattle.time.specs.declared.refusal.Outcome.TheVariants.{Done, Refused}
 use Rattle.lazy_heap.specs.declared.heap.LazyMinHeap.{LazyMinHeap}
-use Rattle.lazy_heap.specs.declared.heap.Step.{Step}
-use Rattle.lazy_heap.specs.declared.heap.Held.{Held}
-use Rattle.lazy_heap_model.specs.declared.scores.Score.TheVariants as score
 use Rattle.lazy_heap.specs.Words.{part, Room}
 use Rattle.lazy_heap_model.specs.Model.{Heap, entry_of, at_least_one, surplus, too_many, numbered, held_score, is_full, before_push, renumbered, pushed, rebuilt, maybe_rebuilt, updated, update_discards}
 use Rattle.lazy_heap.specs.Valid.{Valid}
 use Rattle.lazy_heap.specs.Heap.{held_of, entries_of, model_of, Parts, IsHeap}
-use Rattle.lazy_heap.specs.Steps.{is_over, Adding, Fitting, Holding, Trimming}
-use Rattle.lazy_heap.specs.Calls.{Updating}
+use Rattle.lazy_heap.specs.Steps.{is_over, Fitting, Holding, Trimming}
+use Rattle.lazy_heap.specs.Calls.{counted, Updating}
 use Rattle.lazy_heap.proofs.Helds.{length_without_le}
 use Rattle.lazy_heap.proofs.Valid.{valid_rebuilt, valid_pushed, live_length, numbered_length, numbered_has}
 use Rattle.lazy_heap.proofs.Stepping.{same_capacity, kept_same}
-use Rattle.lazy_heap.proofs.Calling.{refused_done, no_heap_lem, Fair, fair_heap, fair_renumbered, heap_again}
+use Rattle.lazy_heap.proofs.Calling.{no_heap, room_limits, Fair, fair_heap, fair_renumbered, heap_again}
 
 -- ---- as many keys held as the limit allows
 module _ (k : ℕ) (m : Heap) where
@@ -51,15 +47,14 @@ module _ (k : ℕ) (m : Heap) where
   new_full e = rw e
 
 -- the place of a key tells whether it is held
-pub over_full : {ws : List ℕ} (h : LazyMinHeap) (k : ℕ) (p : Place) → p ≡ place_of ws h.scores k → Parts ws h → is_full k (model_of ws h) ≡ is_over p h.scores.len h.scores.capacity
-over_full {ws} h k (place.At c s) e q = held_not_full k (model_of ws h) (hit q.scores k (at_place ws h.scores k (sym e)).at).held
-over_full {ws} h k (place.Free c) e q = new_full k (model_of ws h) (miss q.scores k (free_not_at (free_place ws h.scores k (sym e)).at)).held ∙ ap (leb h.scores.capacity) (model_length ws h.scores)
-over_full h k place.Full e q = absurd (full_no_map k (sym e) q.scores)
-over_full h k place.Refused e q = absurd (refused_no_map k (sym e) q.scores)
+pub over_full : {ws : List ℕ} (h : LazyMinHeap) (k : ℕ) {p : Probe} → place_of ws h.scores k ≡ Ok p → Parts ws h → is_full k (model_of ws h) ≡ is_over p h.scores.len h.scores.capacity
+over_full {ws} h k {p = At c s} e q = held_not_full k (model_of ws h) (hit q.scores k (ends ws h.scores k e).at).held
+over_full {ws} h k {p = Free c} e q = new_full k (model_of ws h) (miss q.scores k (free_not_at (ends ws h.scores k e).at)).held ∙ ap (leb h.scores.capacity) (model_length ws h.scores)
+over_full h k {p = Full} e q = absurd (full_no_map k e q.scores)
 
 -- what a number made to fit leaves of a place
-pub place_kept : {ws ws' : List ℕ} {h : LazyMinHeap} {r : Step} {p : Place} (k : ℕ) → Fitting ws h ws' r → p ≡ place_of ws h.scores k → (h.seq ≡ 2 ^ 64 - 1 → ⊥) → p ≡ place_of ws' r.heap.scores k
-place_kept k fit e not = let q = fit.same not in e ∙ (λ i. place_of (sym q.1 i) (sym q.0 i).scores k)
+pub place_kept : {ws ws' : List ℕ} {h h' : LazyMinHeap} {d : ℕ} {p : Probe} (k : ℕ) → Fitting ws h ws' h' d → place_of ws h.scores k ≡ Ok p → h.seq < 2 ^ 64 - 1 → place_of ws' h'.scores k ≡ Ok p
+place_kept k fit e more = let q = fit.same more in rw (q.0, q.1) e
 
 -- ---- a held key leaves room for itself
 without_held : (k : ℕ) (l : List Record) → has k l ≡ true → length (without k l) < length l
@@ -88,7 +83,7 @@ numbered_score k (r ∷ l) = go (eqb r.key k) (numbered_score k l)
     x : Record
     x = record { key = r.key; first = r.first; second = length l }
 
-    go : (b : Bool) → held_score (lookup k (numbered l)) ≡ held_score (lookup k l) → held_score (cond b (taken.Record x) (lookup k (numbered l))) ≡ held_score (cond b (taken.Record r) (lookup k l))
+    go : (b : Bool) → held_score (lookup k (numbered l)) ≡ held_score (lookup k l) → held_score (cond b (Some x) (lookup k (numbered l))) ≡ held_score (cond b (Some r) (lookup k l))
     go true ih = refl
     go false ih = ih
 
@@ -144,7 +139,7 @@ fair_fit g n v b f e = go (too_many g n) refl
       factor = f;
     }
 
-module _ {ws ws₁ ws₂ ws' : List ℕ} {h : LazyMinHeap} {k s : ℕ} {a : Step} {b : Held} {c : Step} (fit : Fitting ws h ws₁ a) (hold : Holding ws₁ a.heap k s ws₂ b) (trim : Trimming ws₂ b.heap h.factor ws' c) (ok : Room (length ws) h.scores.capacity) where
+module _ {ws ws₁ ws₂ ws' : List ℕ} {h h₁ h₂ h' : LazyMinHeap} {k s a c : ℕ} {b : Option ℕ} (fit : Fitting ws h ws₁ h₁ a) (hold : Holding ws₁ h₁ k s ws₂ h₂ b) (trim : Trimming ws₂ h₂ h₂.factor ws' h' c) (ok : Room (length ws) h.scores.capacity) where
   module _ (is : IsHeap ws h) (new : is_full k (model_of ws h) ≡ false) where
     abbrev m : Heap
     m = model_of ws h
@@ -155,27 +150,30 @@ module _ {ws ws₁ ws₂ ws' : List ℕ} {h : LazyMinHeap} {k s : ℕ} {a : Step
     is_ready : Ready k m m₁
     is_ready = ready k m (fair_heap is) ok.limit fit.word
 
-    first_is : model_of ws₁ a.heap ≡ m₁
+    first_is : model_of ws₁ h₁ ≡ m₁
     first_is = fit.model is.parts
 
-    heap₁ : IsHeap ws₁ a.heap
+    heap₁ : IsHeap ws₁ h₁
     heap₁ = heap_again (fit.parts is.parts) first_is is_ready.fair
 
-    new₁ : is_full k (model_of ws₁ a.heap) ≡ false
+    new₁ : is_full k (model_of ws₁ h₁) ≡ false
     new₁ = ap (is_full k) first_is ∙ is_ready.full ∙ new
 
-    number₁ : a.heap.seq < 2 ^ 64 - 1
-    number₁ = let q : a.heap.seq ≡ m₁.next = ap (λ (n : Heap). n.next) first_is in omega (arith, is_ready.next)
+    number₁ : h₁.seq < 2 ^ 64 - 1
+    number₁ = let q : h₁.seq ≡ m₁.next = ap (λ (n : Heap). n.next) first_is in omega (arith, is_ready.next)
 
-    second_is : model_of ws₂ b.heap ≡ pushed k s m₁
+    second_is : model_of ws₂ h₂ ≡ pushed k s m₁
     second_is = hold.model (fit.parts is.parts) heap₁.few new₁ number₁ ∙ ap (pushed k s) first_is
 
-    parts₂ : Parts ws₂ b.heap
+    parts₂ : Parts ws₂ h₂
     parts₂ = hold.parts (fit.parts is.parts) heap₁.few
 
-    third_is : model_of ws' c.heap ≡ updated k s m
+    factor₂ : h₂.factor ≡ h.factor
+    factor₂ = hold.factor ∙ fit.factor
+
+    third_is : model_of ws' h' ≡ updated k s m
     unfolding updated
-    third_is = trim.model parts₂ is.factor.1 ∙ ap (maybe_rebuilt h.factor) second_is
+    third_is = trim.model parts₂ ∙ (λ i. maybe_rebuilt (factor₂ i) (second_is i))
 
     fair₃ : Fair (updated k s m)
     unfolding updated
@@ -186,36 +184,35 @@ module _ {ws ws₁ ws₂ ws' : List ℕ} {h : LazyMinHeap} {k s : ℕ} {a : Step
         (rw p.1 r.fair.factor)
         (omega (arith, push_length k s m₁, p.0, r.fair.few))
 
-    heap₃ : IsHeap ws' c.heap
+    heap₃ : IsHeap ws' h'
     heap₃ = heap_again (trim.parts parts₂) third_is fair₃
 
-    answer₃ : b.answer ≡ held_score (lookup k m.held)
+    answer₃ : b ≡ held_score (lookup k m.held)
     answer₃ = hold.answer (fit.parts is.parts) new₁ ∙ ap (λ (n : Heap). held_score (lookup k n.held)) first_is ∙ is_ready.score
 
-    few_first : a.discarded ≤ 32769
-    few_first = omega (arith, fit.small, is.few, ok.limit)
+    -- both counts are small, so that their sum is one
+    few₃ : a + c ≤ 2 ^ 64 - 1
+    few₃ =
+        let n = h₂.scores.capacity in
+        let e : length (entries_of ws₂ h₂) ≡ length (pushed k s m₁).entries = ap (λ (x : Heap). length x.entries) second_is in
+        omega (arith, fit.small, is.few, ok.limit, trim.small, array-length (part n ws₂) h₂.entries, e, push_length k s m₁, is_ready.fair.few, is_ready.limit)
 
-    few_second : c.discarded ≤ 32769
-    few_second =
-        let n = b.heap.scores.capacity in
-        let e : length (entries_of ws₂ b.heap) ≡ length (pushed k s m₁).entries = ap (λ (x : Heap). length x.entries) second_is in
-        omega (arith, trim.small, array-length (part n ws₂) b.heap.entries, e, push_length k s m₁, is_ready.fair.few, is_ready.limit, ok.limit)
-
-    discarded₃ : {d : ℕ} → Adding a.discarded c.discarded d → d ≡ update_discards k s m
+    discarded₃ : a + c ≡ update_discards k s m
     unfolding update_discards
-    discarded₃ {d} add =
-        add.answer few_first few_second
-        ∙ ap (λ (x : ℕ). x + c.discarded) (fit.discarded is.parts)
-        ∙ ap (λ (x : ℕ). cond (eqb h.seq (2 ^ 64 - 1)) (surplus m) 0 + x) (trim.discarded parts₂ is.factor.1 ∙ ap (λ (n : Heap). cond (too_many h.factor n) (surplus n) 0) second_is)
+    discarded₃ =
+        ap (λ (x : ℕ). x + c) (fit.discarded is.parts)
+        ∙ ap (λ (x : ℕ). cond (eqb h.seq (2 ^ 64 - 1)) (surplus m) 0 + x) (trim.discarded parts₂ ∙ (λ i. cond (too_many (factor₂ i) (second_is i)) (surplus (second_is i)) 0))
 
-  pub updating : {d : ℕ} → (Parts ws h → is_full k (model_of ws h) ≡ false) → Adding a.discarded c.discarded d → heap_limits h.scores.capacity (length ws) ≡ Done → Updating ws h k s ws' (record { heap = c.heap; answer = b.answer; discarded = d })
-  updating {d} room add t = record {
-    outcome = inl (hold.accepted ∙ sym t);
-    refused = λ why q. absurd (refused_done why (sym q ∙ hold.accepted));
-    answer = λ is. let new = room is.parts in answer₃ is new ∙ sym (ap (λ (u : Bool). cond u (score.Refused KeyLimitReached) (held_score (lookup k (held_of ws h)))) new);
+  pub updating : {d : ℕ} → (Parts ws h → is_full k (model_of ws h) ≡ false) → d ≡ min (a + c) (2 ^ 64 - 1) → Updating ws h k s ws' h' (Ok (counted b d))
+  updating {d} room sum = record {
+    outcome = inl (sym (room_limits ok));
+    refused = λ why q. cc;
+    answer = λ is.
+        let new = room is.parts in
+        let total : d ≡ update_discards k s (model_of ws h) = omega (arith, few₃ is new, discarded₃ is new) in
+        (λ i. Ok (counted (answer₃ is new i) (total i))) ∙ sym (rw new);
     heap = λ is. heap₃ is (room is.parts);
     model = λ is new. third_is is new;
-    discarded = λ is new. discarded₃ is new add;
     capacity = same_capacity trim.scores ∙ hold.capacity ∙ fit.capacity;
     kept = record {
       size = trim.kept.size ∙ hold.kept.size ∙ fit.kept.size;
@@ -224,26 +221,24 @@ module _ {ws ws₁ ws₂ ws' : List ℕ} {h : LazyMinHeap} {k s : ℕ} {a : Step
   }
 
 -- refused: nothing changes
-pub updating_refused : {ws : List ℕ} {h : LazyMinHeap} {k s : ℕ} {why : Refusal} → heap_limits h.scores.capacity (length ws) ≡ Refused why → Updating ws h k s ws (record { heap = h; answer = score.Refused why; discarded = 0 })
+pub updating_refused : {ws : List ℕ} {h : LazyMinHeap} {k s : ℕ} {why : Refusal} → heap_limits h.scores.capacity (length ws) ≡ Err why → Updating ws h k s ws h (Err why)
 updating_refused {ws} {h} e = record {
   outcome = inl (sym e);
-  refused = λ w q. (refl, refl, refl);
-  answer = λ is. absurd (no_heap_lem e is);
+  refused = λ w q. (refl, refl);
+  answer = λ is. absurd (no_heap e is);
   heap = λ is. is;
-  model = λ is. absurd (no_heap_lem e is);
-  discarded = λ is. absurd (no_heap_lem e is);
+  model = λ is. absurd (no_heap e is);
   capacity = refl;
   kept = kept_same h.scores.capacity ws;
 }
 
-pub updating_full : {ws : List ℕ} {h : LazyMinHeap} {k s : ℕ} → (Parts ws h → is_full k (model_of ws h) ≡ true) → heap_limits h.scores.capacity (length ws) ≡ Done → Updating ws h k s ws (record { heap = h; answer = score.Refused KeyLimitReached; discarded = 0 })
-updating_full {ws} {h} {k} {s} full t = record {
-  outcome = inr (t, refl);
-  refused = λ why q. (refl, refl, refl);
-  answer = λ is. sym (ap (λ (u : Bool). cond u (score.Refused KeyLimitReached) (held_score (lookup k (held_of ws h)))) (full is.parts));
+pub updating_full : {ws : List ℕ} {h : LazyMinHeap} {k s : ℕ} → (Parts ws h → is_full k (model_of ws h) ≡ true) → Room (length ws) h.scores.capacity → Updating ws h k s ws h (Err KeyLimitReached)
+updating_full {ws} {h} full ok = record {
+  outcome = inr (room_limits ok, refl);
+  refused = λ why q. (refl, refl);
+  answer = λ is. sym (rw (full is.parts));
   heap = λ is. is;
   model = λ is new. absurd (true≢false (sym (full is.parts) ∙ new));
-  discarded = λ is new. absurd (true≢false (sym (full is.parts) ∙ new));
   capacity = refl;
   kept = kept_same h.scores.capacity ws;
 }

@@ -223,7 +223,7 @@ module _ (held : List Record) where
   -- the first that is left is live
   pub first_live : (es : List Entry) (e : Entry) (rest : List Entry) → from_live held es ≡ e ∷ rest → live held e ≡ true
   unfolding from_live
-  first_live [] e rest q = absurd (let z : ◌≡◌ {A = ℕ} 0 1 = cc in omega arith)
+  first_live [] e rest q = cc
   first_live (x ∷ es) e rest q = go (live held x) refl q (first_live es e rest)
     where
       go : (b : Bool) → live held x ≡ b → cond b (x ∷ es) (from_live held es) ≡ e ∷ rest → (from_live held es ≡ e ∷ rest → live held e ≡ true) → live held e ≡ true

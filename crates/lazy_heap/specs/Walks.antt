@@ -1,13 +1,11 @@
 -- What the walks over the held keys and the entries promise, and of them the check is made.
-use Rattle.std.specs.Prelude.{◌≡◌, Bool, true, false, cond, ℕ, ◌<◌, ◌≤◌, ◌*◌, min, eqb, length, get_or, set}
+use Rattle.std.specs.Prelude.{◌≡◌, Bool, true, false, ℕ, ◌+◌, ◌<◌, ◌≤◌, ◌*◌, min, length, get_or, set, Option, None, Some}
 use mathlib.Core.List.{List, Memᴰ}
 use Rattle.binary_heap.specs.declared.entries.Entry.{Entry}
 use Rattle.binary_heap.specs.Order.{count}
 use Rattle.binary_heap.specs.Heap as array
 use Rattle.linked_hash_map.specs.declared.map.LinkedHashMap.{LinkedHashMap}
 use Rattle.linked_hash_map.specs.declared.map.Record.{Record}
-use Rattle.linked_hash_map.specs.declared.map.Slot.{Slot}
-use Rattle.linked_hash_map.specs.declared.map.Slot.TheVariants as slot
 use Rattle.linked_hash_map.specs.Map as map
 use Rattle.lazy_heap.specs.declared.heap.LazyMinHeap.{LazyMinHeap}
 use Rattle.lazy_heap.specs.Words.{part}
@@ -24,24 +22,22 @@ pub record CountingWithin (ws : List ℕ) (h : LazyMinHeap) (score r : ℕ) : Ty
   pub answer : Parts ws h → Valid (model_of ws h) → r ≡ at_most score (model_of ws h)
 
 -- `live_slot`: the slot of the key whose live entry this is, and none for a stale one
-pub record LivingAt (ws : List ℕ) (m : LinkedHashMap) (e : Entry) (r : Slot) : Type 0 where
-  pub found : map.IsMap ws m → (s : ℕ) → r ≡ slot.At s → (live (map.model_of ws m) e ≡ true) × (map.slot_of ws m e.key ≡ slot.At s)
-  pub stale : map.IsMap ws m → r ≡ slot.Nothing → live (map.model_of ws m) e ≡ false
-  pub never : map.IsMap ws m → r ≡ slot.Refused → ⊥
+pub record LivingAt (ws : List ℕ) (m : LinkedHashMap) (e : Entry) (r : Option ℕ) : Type 0 where
+  pub found : map.IsMap ws m → (s : ℕ) → r ≡ Some s → (live (map.model_of ws m) e ≡ true) × (map.slot_of ws m e.key ≡ Some s)
+  pub stale : map.IsMap ws m → r ≡ None → live (map.model_of ws m) e ≡ false
 
 -- none seen, then one, then more, which is 2
 abbrev pub one_more : ℕ → ℕ
-one_more n = cond (eqb n 0) 1 2
+one_more n = min (n + 1) 2
 
 -- `see`: one more at a slot
-abbrev pub seen : List ℕ → Slot → List ℕ
-seen t (slot.At s) = set t s (one_more (get_or t s 0))
-seen t slot.Nothing = t
-seen t slot.Refused = t
+abbrev pub seen : List ℕ → Option ℕ → List ℕ
+seen t (Some s) = set t s (one_more (get_or t s 0))
+seen t None = t
 
 -- the word of each held key's slot says how often its entry is among these
 abbrev pub Tallied : List ℕ → LinkedHashMap → List Entry → List ℕ → Type 0
-Tallied ws m es t = (r : Record) → Memᴰ r (map.model_of ws m) → (s : ℕ) → map.slot_of ws m r.key ≡ slot.At s → get_or t s 0 ≡ min (count (entry_of r) es) 2
+Tallied ws m es t = (r : Record) → Memᴰ r (map.model_of ws m) → (s : ℕ) → map.slot_of ws m r.key ≡ Some s → get_or t s 0 ≡ min (count (entry_of r) es) 2
 
 -- a word for each slot, all 0
 pub record Blank (m : LinkedHashMap) (t : List ℕ) : Type 0 where
@@ -57,7 +53,7 @@ pub record Tallying (ws : List ℕ) (m : LinkedHashMap) (n next : ℕ) (t t' : L
 
 -- each slot of a held key was seen once
 abbrev pub Once : List ℕ → LinkedHashMap → List ℕ → Type 0
-Once ws m t = (i s : ℕ) → map.slot_at ws m i ≡ slot.At s → get_or t s 0 ≡ 1
+Once ws m t = (i s : ℕ) → map.slot_at ws m i ≡ Some s → get_or t s 0 ≡ 1
 
 -- `records_valid`
 pub record RecordsValid (ws : List ℕ) (m : LinkedHashMap) (next : ℕ) (t : List ℕ) (r : Bool) : Type 0 where

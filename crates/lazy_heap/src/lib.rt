@@ -13,6 +13,7 @@
 #![tactic(auto)]
 
 mod heap;
+mod layout;
 mod walks;
 
-pub use heap::{Bested, Flag, LazyMinHeap, Number, Opened, Stepped, Updated};
+pub use heap::LazyMinHeap;

@@ -6,7 +6,7 @@ use mathlib.Core.List.{List, ◌∷◌, Memᴰ}
 use Prim.Native.Nat.{ℕ, ◌+◌, ◌*◌, ◌/◌, ◌%◌, ◌<◌}
 use native.Mathlib.Omega.{arith}
 use lib.ListN.{length}
-use Rattle.std.specs.Prelude.{Some, None, Ok}
+use Rattle.std.specs.Prelude.{Some, Ok}
 use Rattle.limits.specs.Limits.{map_fits}
 use Rattle.rings.specs.Ring as ring
 use Rattle.rings.proofs.Counts.{mem_without}

@@ -1,18 +1,59 @@
 -- The definitions by recursion as the loops run through them: a turn takes one from what is left.
-use mathlib.Core.Path.{◌≡◌, refl, ap, ◌∙◌}
+use mathlib.Core.Path.{◌≡◌, refl, sym, ap, ◌∙◌}
 use mathlib.Core.Bool.{Bool, true, false, cond}
-use mathlib.Core.List.{List}
-use Prim.Native.Nat.{ℕ, suc, ◌+◌, ◌-◌, ◌<◌, ◌≤◌}
+use mathlib.Core.List.{List, [], ◌∷◌, ◌++◌}
+use Prim.Native.Nat.{ℕ, zero, suc, ◌+◌, ◌-◌, ◌*◌, ◌^◌, ◌<◌, ◌≤◌}
 use native.Mathlib.Omega.{arith}
+use lib.Dec.{lit<}
+use lib.ListN.{length, set, take, drop, replicate, length-set}
+use borrow.Rule.Slice.PartMut.{put_mid}
+use Rattle.std.proofs.lemmas.List.{append_assoc, take-append-drop, drop-drop, take_more_set, drop-set-lt, length-take-le, length-drop}
 use borrow.Author.Tests.{lt-ltb, le-ltb}
 use Rattle.std.specs.Prelude.{Some, None}
 use Rattle.std.specs.Bool.{then_some}
 use Rattle.rings.specs.Ring.{next, attached}
-use Rattle.cells.specs.Probe.{entered}
+use Rattle.cells.specs.Cells.{weight, zeroed}
+use Rattle.cells.proofs.Packing.{put_lt}
+use Rattle.cells.specs.declared.Probe.{Probe}
+use Rattle.cells.specs.declared.Probe.TheVariants as probed
+use Rattle.cells.specs.Probe.{taken_by, entered}
 use Rattle.linked_hash_map.specs.declared.map.LinkedHashMap.{LinkedHashMap}
 use Rattle.linked_hash_map.specs.Words.{filled, entered_from}
 use Rattle.linked_hash_map.specs.Numbers.{len_after}
-use Rattle.linked_hash_map.specs.Checks.{finds_of, finds_all}
+use Rattle.linked_hash_map.specs.Checks.{ends_at, finds_of, finds_all}
+
+-- a record that its key's probe offers no cell is not entered
+pub not_taken : (ws : List ℕ) (n s : ℕ) (r : Probe) → ((c : ℕ) → r ≡ probed.Free c → ⊥) → ws ≡ taken_by ws n s r
+not_taken ws n s (probed.At c x) none = refl
+not_taken ws n s (probed.Free c) none = absurd (none c refl)
+not_taken ws n s probed.Full none = refl
+
+pub not_ended : (s : ℕ) (r : Probe) → ((c x : ℕ) → r ≡ probed.At c x → ⊥) → false ≡ ends_at s r
+not_ended s (probed.At c x) none = absurd (none c x refl)
+not_ended s (probed.Free c) none = refl
+not_ended s probed.Full none = refl
+
+-- words set to 0 in one piece
+zeroed_mid : (b f : ℕ) (ws : List ℕ) → b + f ≤ length ws → put_mid b f ws (replicate f 0) ≡ zeroed ws b f
+unfolding zeroed
+zeroed_mid b zero ws h = take-append-drop b ws
+zeroed_mid b (suc f) ws h =
+    let first : b < length ws = omega arith in
+    let rest : drop (suc f) (drop b ws) ≡ drop f (drop (b + 1) ws) = drop-drop (suc f) b ws ∙ ap (λ (n : ℕ). drop n ws) (omega arith) ∙ sym (drop-drop f (b + 1) ws) in
+    rw rest
+    (sym (append_assoc (take b ws) (0 ∷ []) (replicate f 0 ++ drop f (drop (b + 1) ws)))
+    ∙ (let t = take_more_set ws b 0 first in let d = drop-set-lt (b + 1) ws b 0 (omega arith) in rw (← t, ← d) refl)
+    ∙ zeroed_mid (b + 1) f (set ws b 0) (simp length-set (omega arith)))
+
+pub zeroed_part : (b g f : ℕ) (ws ys : List ℕ) → g ≡ f → b + f ≤ length ws → ys ≡ replicate (length (take g (drop b ws))) 0 → put_mid b g ws ys ≡ zeroed ws b f
+zeroed_part b g f ws ys q h e =
+    let n : length (take f (drop b ws)) ≡ f = length-take-le f (drop b ws) (omega (arith, length-drop b ws)) in
+    let all : ys ≡ replicate f 0 = e ∙ ap (λ (x : ℕ). replicate (length (take x (drop b ws))) 0) q ∙ ap (λ (x : ℕ). replicate x 0) n in
+    rw (q, all) (zeroed_mid b f ws h)
+
+-- a cell's value, where it stands in its word, fits a word
+pub digit_fits : (p v : ℕ) → v < 65536 → v * weight p < 2 ^ 64
+digit_fits p v h = let l = put_lt p 0 v (lit< tt) h in omega arith
 
 pub then_some_cond : (b : Bool) (x : ℕ) → then_some b x ≡ cond b (Some x) None
 then_some_cond true x = refl
@@ -41,32 +82,26 @@ module _ (ws : List ℕ) (n : ℕ) where
     unfolding entered_from
     entered_end h = let e : k ≡ 0 = omega arith in rw e refl
 
-    entered_step : 0 < k → entered_from ws n k x ≡ entered_from ws n (suc (k - 1)) x
-    entered_step h = let e : k ≡ suc (k - 1) = omega arith in ap (λ (f : ℕ). entered_from ws n f x) e
-
     pub entered_past : 0 < k → n ≤ x → entered_from ws n k x ≡ ws
     unfolding entered_from
-    entered_past h l = entered_step h ∙ rw (le-ltb x n l)
+    entered_past h l = let e : k ≡ suc (k - 1) = omega arith in rw (e, le-ltb x n l)
 
-    pub entered_on : 0 < k → x < n → entered_from ws n k x ≡ entered_from (entered ws n x) n (k - 1) (next (entered ws n x) x)
+    pub entered_on : (g : ℕ) → k ≡ suc g → x < n → entered_from ws n k x ≡ entered_from (entered ws n x) n g (next (entered ws n x) x)
     unfolding entered_from
-    entered_on h l = entered_step h ∙ rw (lt-ltb x n l)
+    entered_on g e l = rw (e, lt-ltb x n l)
 
     pub finds_end : k ≤ 0 → finds_all ws n k x ≡ true
     unfolding finds_all
     finds_end h = let e : k ≡ 0 = omega arith in rw e refl
 
-    finds_step : 0 < k → finds_all ws n k x ≡ finds_all ws n (suc (k - 1)) x
-    finds_step h = let e : k ≡ suc (k - 1) = omega arith in ap (λ (f : ℕ). finds_all ws n f x) e
-
     pub finds_past : 0 < k → n ≤ x → finds_all ws n k x ≡ false
     unfolding finds_all
-    finds_past h l = finds_step h ∙ rw (le-ltb x n l)
+    finds_past h l = let e : k ≡ suc (k - 1) = omega arith in rw (e, le-ltb x n l)
 
     pub finds_lost : 0 < k → x < n → finds_of ws n x ≡ false → finds_all ws n k x ≡ false
     unfolding finds_all
-    finds_lost h l e = finds_step h ∙ rw (lt-ltb x n l, e)
+    finds_lost h l q = let e : k ≡ suc (k - 1) = omega arith in rw (e, lt-ltb x n l, q)
 
-    pub finds_on : 0 < k → x < n → finds_of ws n x ≡ true → finds_all ws n k x ≡ finds_all ws n (k - 1) (next ws x)
+    pub finds_on : (g : ℕ) → k ≡ suc g → x < n → finds_of ws n x ≡ true → finds_all ws n k x ≡ finds_all ws n g (next ws x)
     unfolding finds_all
-    finds_on h l e = finds_step h ∙ rw (lt-ltb x n l, e)
+    finds_on g e l q = rw (e, lt-ltb x n l, q)

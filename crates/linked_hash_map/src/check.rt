@@ -10,13 +10,13 @@ use crate::index;
 use cells::Probe;
 
 // From node s by the next links come k records, each linked both ways, and then s again.
+#[tactic(auto, using(rings::proofs::Walks::walks_on, rings::proofs::Walks::walks_past, rings::proofs::Walks::walks_end, rings::proofs::Walks::walks_one_way))]
 pub fn walks(words: &[u64], n: usize, s: usize, k: usize) -> bool
     requires { Room (length words.now) n × (s < n + 2) }
     ensures { result ≡ walksOf words.now n s s k }
 {
     let mut a = s;
-    let mut left = k;
-    while 0 < left {
+    for _ in 0..k {
         let x = words[5 * a + 4];
         if n as u64 <= x {
             return false;
@@ -26,22 +26,18 @@ pub fn walks(words: &[u64], n: usize, s: usize, k: usize) -> bool
             return false;
         }
         a = b;
-        left -= 1;
     }
-    if words[5 * a + 4] != s as u64 {
-        return false;
-    }
-    words[5 * s + 3] == a as u64
+    words[5 * a + 4] == s as u64 && words[5 * s + 3] == a as u64
 }
 
 // The probe of each live record's key ends at that record.
+#[tactic(auto, using(crate::proofs::Steps::finds_on, crate::proofs::Steps::finds_past, crate::proofs::Steps::finds_end, crate::proofs::Steps::finds_lost))]
 pub fn finds_all(words: &[u64], n: usize, len: usize) -> bool
     requires { Room (length words.now) n }
     ensures { result ≡ finds_all words.now n len (next words.now n) }
 {
     let mut x = words[5 * n + 4];
-    let mut left = len;
-    while 0 < left {
+    for _ in 0..len {
         if n as u64 <= x {
             return false;
         }
@@ -50,38 +46,33 @@ pub fn finds_all(words: &[u64], n: usize, len: usize) -> bool
             return false;
         }
         x = words[5 * s + 4];
-        left -= 1;
     }
     true
 }
 
+#[tactic(auto, unfolding(crate::specs::Checks::finds_of), using(crate::proofs::Steps::not_ended, crate::proofs::Probed::none_at))]
 fn finds(words: &[u64], n: usize, slot: usize) -> bool
     requires { Room (length words.now) n × (slot < n) }
     ensures { result ≡ finds_of words.now n slot }
 {
     match index::probe(words, n, words[5 * slot]) {
         Probe::At(_, s) => s == slot,
-        Probe::Free(_) => false,
-        Probe::Full => false,
+        Probe::Free(_) | Probe::Full => false,
     }
 }
 
 // How many cells hold a record.
+#[tactic(auto, using(cells::proofs::Held::count_none, cells::proofs::Held::count_one, cells::proofs::Held::count_free, cells::proofs::Held::count_tomb))]
 pub fn held(words: &[u64], n: usize) -> usize
     requires { Room (length words.now) n }
     ensures { result ≡ length (held_in words.now n (cell_count n)) }
 {
-    let count = 12 * n + 192;
     let mut held = 0;
-    let mut p = 0;
-    while p < count {
+    for p in 0..12 * n + 192 {
         let v = index::cell(words, n, p);
-        if 1 <= v {
-            if v <= n as u64 {
-                held += 1;
-            }
+        if 1 <= v && v <= n as u64 {
+            held += 1;
         }
-        p += 1;
     }
     held
 }

@@ -10,6 +10,7 @@ use cells::Probe;
 const TOMBSTONE: u64 = 65535;
 
 // The cell at which a key's probes start: its hash scaled to the number of cells, with no division.
+#[tactic(auto, unfolding(cells::specs::Cells::home_of))]
 fn home(n: usize, key: u64) -> usize
     requires { n ≤ 4096 }
     ensures { result ≡ home_of n key }
@@ -22,6 +23,7 @@ fn home(n: usize, key: u64) -> usize
 }
 
 // The cell after p, round the end.
+#[tactic(auto, unfolding(cells::specs::Cells::cell_after))]
 fn after(n: usize, p: usize) -> usize
     requires { (n ≤ 4096) × (p < cell_count n) }
     ensures { result ≡ cell_after n p }
@@ -30,6 +32,7 @@ fn after(n: usize, p: usize) -> usize
 }
 
 // Cell p.
+#[tactic(auto, unfolding(cells::specs::Cells::weight, cells::specs::Cells::cell_at))]
 pub fn cell(words: &[u64], n: usize, p: usize) -> u64
     requires { Room (length words.now) n × (p < cell_count n) }
     ensures { result ≡ cell_at words.now n p }
@@ -39,6 +42,7 @@ pub fn cell(words: &[u64], n: usize, p: usize) -> u64
 }
 
 // What the cell's lowest bit counts in its word.
+#[tactic(auto, unfolding(cells::specs::Cells::weight))]
 fn weight_of(p: usize) -> u64
     ensures { result ≡ weight p }
 {
@@ -46,6 +50,7 @@ fn weight_of(p: usize) -> u64
 }
 
 // Writes v into cell p.
+#[tactic(auto, unfolding(cells::specs::Cells::cell_at, cells::specs::Cells::set_cell), using(cells::proofs::Packing::digit_le, cells::proofs::Packing::put_lt, crate::proofs::Steps::digit_fits))]
 pub fn set_cell(words: &mut [u64], n: usize, p: usize, v: u64)
     requires { Room (length words.old) n × (p < cell_count n) × (v < 65536) }
     ensures { words.new ≡ set_cell words.old n p v }
@@ -64,9 +69,8 @@ pub fn probe(words: &[u64], n: usize, key: u64) -> Probe
 {
     let count = 12 * n + 192;
     let mut p = home(n, key);
-    let mut left = count;
     let mut free = count;
-    while 0 < left {
+    for _ in 0..count {
         let v = cell(words, n, p);
         if v == 0 {
             if free < count {
@@ -85,7 +89,6 @@ pub fn probe(words: &[u64], n: usize, key: u64) -> Probe
             }
         }
         p = after(n, p);
-        left -= 1;
     }
     if free < count {
         Probe::Free(free)
@@ -95,19 +98,18 @@ pub fn probe(words: &[u64], n: usize, key: u64) -> Probe
 }
 
 // Enters a record in the cell that its key's probe offers.
+#[tactic(auto, unfolding(cells::specs::Probe::entered), using(crate::proofs::Steps::not_taken, cells::proofs::Probing::free_vacant))]
 pub fn enter(words: &mut [u64], n: usize, slot: usize)
     requires { Room (length words.old) n × (slot < n) }
     ensures { words.new ≡ entered words.old n slot }
 {
-    let key = words[5 * slot];
-    match probe(words, n, key) {
-        Probe::Free(c) => set_cell(words, n, c, slot as u64 + 1),
-        Probe::At(_, _) => {}
-        Probe::Full => {}
+    if let Probe::Free(c) = probe(words, n, words[5 * slot]) {
+        set_cell(words, n, c, slot as u64 + 1);
     }
 }
 
 // Empties cell p. Where no probe goes on to the cell after it, it is as if never used.
+#[tactic(auto, unfolding(cells::specs::Cells::erased), using(cells::proofs::Probing::after_lt))]
 pub fn erase(words: &mut [u64], n: usize, p: usize)
     requires { Room (length words.old) n × (p < cell_count n) }
     ensures { words.new ≡ erased words.old n p }
@@ -118,15 +120,10 @@ pub fn erase(words: &mut [u64], n: usize, p: usize)
 }
 
 // Every cell as never used.
+#[tactic(auto, using(crate::proofs::Steps::zeroed_part))]
 pub fn clear_cells(words: &mut [u64], n: usize)
     requires { Room (length words.old) n }
     ensures { words.new ≡ zeroed words.old (cells_from n) (cell_words n) }
 {
-    let from = 5 * n + 10;
-    let count = 3 * n + 48;
-    let mut i = 0;
-    while i < count {
-        words[from + i] = 0;
-        i += 1;
-    }
+    words[5 * n + 10..8 * n + 58].fill(0);
 }

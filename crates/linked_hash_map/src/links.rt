@@ -4,6 +4,7 @@ ghost use Rattle.rings.specs.Ring.{joined, detached, attached, moved, spliced};
 ghost use Rattle.linked_hash_map.specs.Words.{Nodes};
 
 // Makes b the next of a and a the previous of b, where both are nodes.
+#[tactic(auto, unfolding(rings::specs::Ring::joined, rings::specs::Ring::linked))]
 fn join(words: &mut [u64], nodes: usize, a: usize, b: usize)
     requires { Nodes (length words.old) nodes }
     ensures { words.new ≡ joined nodes words.old a b }
@@ -17,6 +18,7 @@ fn join(words: &mut [u64], nodes: usize, a: usize, b: usize)
 }
 
 // Links x's neighbours to each other.
+#[tactic(auto, unfolding(rings::specs::Ring::detached))]
 fn detach(words: &mut [u64], nodes: usize, x: usize)
     requires { Nodes (length words.old) nodes × (x < nodes) }
     ensures { words.new ≡ detached nodes words.old x }
@@ -27,6 +29,7 @@ fn detach(words: &mut [u64], nodes: usize, x: usize)
 }
 
 // Puts x right after s.
+#[tactic(auto, unfolding(rings::specs::Ring::attached))]
 pub fn attach(words: &mut [u64], nodes: usize, s: usize, x: usize)
     requires { Nodes (length words.old) nodes × (s < nodes) × (x < nodes) }
     ensures { words.new ≡ attached nodes words.old s x }
@@ -37,6 +40,7 @@ pub fn attach(words: &mut [u64], nodes: usize, s: usize, x: usize)
 }
 
 // Takes x out of its ring and puts it right after s.
+#[tactic(auto, unfolding(rings::specs::Ring::moved))]
 pub fn move_after(words: &mut [u64], nodes: usize, s: usize, x: usize)
     requires { Nodes (length words.old) nodes × (s < nodes) × (x < nodes) }
     ensures { words.new ≡ moved nodes words.old s x }
@@ -46,6 +50,7 @@ pub fn move_after(words: &mut [u64], nodes: usize, s: usize, x: usize)
 }
 
 // Puts the ring of s right after t as it is, by three links however many nodes it has; s is then alone.
+#[tactic(auto, unfolding(rings::specs::Ring::spliced))]
 pub fn splice(words: &mut [u64], nodes: usize, s: usize, t: usize)
     requires { Nodes (length words.old) nodes × (s < nodes) × (t < nodes) }
     ensures { words.new ≡ spliced nodes words.old s t }

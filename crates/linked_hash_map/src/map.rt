@@ -52,20 +52,20 @@ const PREVIOUS: usize = 3;
 const NEXT: usize = 4;
 
 // All records free, and no cell used, whatever the words held.
+#[tactic(auto, unfolding(crate::specs::Words::emptied), using(crate::proofs::Steps::filled_on, crate::proofs::Steps::filled_end))]
 fn empty_words(words: &mut [u64], n: usize)
     requires { Room (length words.old) n }
     ensures { words.new ≡ emptied words.old n }
 {
     links::close_rings(words, n + 2, n, n + 1);
-    let mut i = 0;
-    while i < n {
+    for i in 0..n {
         links::attach(words, n + 2, n + 1, i);
-        i += 1;
     }
     index::clear_cells(words, n);
 }
 
 // The same where the words are a map: its live ring goes to the free one whole, so that only the cells cost with n.
+#[tactic(auto, unfolding(crate::specs::Words::wiped))]
 fn wipe(words: &mut [u64], n: usize)
     requires { Room (length words.old) n }
     ensures { words.new ≡ wiped words.old n }
@@ -74,6 +74,7 @@ fn wipe(words: &mut [u64], n: usize)
     index::clear_cells(words, n);
 }
 
+#[tactic(auto, unfolding(crate::specs::Words::written))]
 fn write_record(words: &mut [u64], slot: usize, item: Record)
     requires { Nodes (length words.old) (slot + 1) }
     ensures { words.new ≡ written words.old slot item }
@@ -95,6 +96,7 @@ fn read_record(words: &[u64], slot: usize) -> Record
 }
 
 // Writes a record over the one at a slot, moves it to the front, and hands back the old one.
+#[tactic(auto, unfolding(crate::specs::Words::replaced))]
 fn replace(words: &mut [u64], n: usize, slot: usize, item: Record) -> Record
     requires { Room (length words.old) n × (slot < n) }
     ensures { (result ≡ record_at words.old slot) × (words.new ≡ replaced words.old n slot item) }
@@ -106,24 +108,24 @@ fn replace(words: &mut [u64], n: usize, slot: usize, item: Record) -> Record
 }
 
 // Enters the live records anew, front first.
+#[tactic(auto, unfolding(crate::specs::Words::refilled), using(crate::proofs::Steps::entered_on, crate::proofs::Steps::entered_past, crate::proofs::Steps::entered_end))]
 fn refill(words: &mut [u64], n: usize, len: usize)
     requires { Room (length words.old) n }
     ensures { words.new ≡ refilled words.old n len }
 {
     index::clear_cells(words, n);
     let mut x = words[5 * n + 4] as usize;
-    let mut left = len;
-    while 0 < left {
+    for _ in 0..len {
         if n <= x {
             return;
         }
         index::enter(words, n, x);
         x = words[5 * x + 4] as usize;
-        left -= 1;
     }
 }
 
 // Whether the capacity is within the limit, and the words are enough for it.
+#[tactic(auto, using(crate::proofs::Limits::is_room))]
 fn fits(words: &[u64], capacity: usize) -> Result<(), Unfit>
     ensures { MatchResult result (λ _. (map_fits capacity (length words.now) ≡ true) × Room (length words.now) capacity) (λ _. map_fits capacity (length words.now) ≡ false) }
 {
@@ -135,6 +137,7 @@ fn fits(words: &[u64], capacity: usize) -> Result<(), Unfit>
 }
 
 // The slot that a link leads to.
+#[tactic(auto, unfolding(crate::specs::Numbers::slot_from), using(crate::proofs::Steps::then_some_cond))]
 fn slot_from(n: usize, x: u64) -> Option<usize>
     ensures { result ≡ slot_from n x }
 {
@@ -154,6 +157,7 @@ impl LinkedHashMap {
     }
 
     // The empty map, in words of any contents.
+    #[tactic(auto, using(crate::proofs::Opening::opening, crate::proofs::Opening::opening_refused, crate::proofs::Probed::err_unfit))]
     pub fn open(words: &mut [u64], capacity: usize) -> Result<LinkedHashMap, Unfit>
         ensures { Opening words.old capacity words.new result }
     {
@@ -163,6 +167,7 @@ impl LinkedHashMap {
     }
 
     // The empty map. Very few records are removed one by one, which costs less than to wipe all cells.
+    #[tactic(auto, using(crate::proofs::Opening::clearing_refused, crate::proofs::Opening::clearing_drained, crate::proofs::Opening::clearing_wiped, crate::proofs::Probed::err_unfit))]
     pub fn clear(&mut self, words: &mut [u64]) -> Result<(), Unfit>
         ensures { Clearing words.old self.old words.new self.new result }
     {
@@ -177,6 +182,7 @@ impl LinkedHashMap {
     }
 
     // Removes the records, the first one first. The turns are counted by the numbers, so that it ends on any words.
+    #[tactic(auto, using(crate::proofs::Draining::drain_start, crate::proofs::Draining::drain_then))]
     fn drain(&mut self, words: &mut [u64])
         ensures { Draining words.old self.old 0 words.new self.new }
     {
@@ -185,6 +191,7 @@ impl LinkedHashMap {
         }
     }
 
+    #[tactic(auto, using(crate::proofs::Draining::drain_first, crate::proofs::Draining::drain_none, crate::proofs::Draining::drain_found, crate::proofs::Draining::drain_lost))]
     fn remove_first(&mut self, words: &mut [u64])
         ensures { Draining words.old self.old (self.old.len - 1) words.new self.new }
     {
@@ -245,6 +252,7 @@ impl LinkedHashMap {
     }
 
     // For a call that goes on at the place, so that the key is looked for once.
+    #[tactic(auto, unfolding(crate::specs::Calls::place_of), using(crate::proofs::Probed::err_unfit))]
     pub fn seek(self, words: &[u64], key: u64) -> Result<Probe, Unfit>
         ensures { result ≡ place_of words.now self key }
     {
@@ -276,6 +284,7 @@ impl LinkedHashMap {
     }
 
     // Takes the record at this cell and slot out, and answers its first word.
+    #[tactic(auto, using(crate::proofs::Places::taking_unfit, crate::proofs::Places::taking_past, crate::proofs::Places::taking_beyond, crate::proofs::Places::taking_at))]
     pub fn take_at(&mut self, words: &mut [u64], cell: usize, slot: usize) -> u64
         ensures { TakingAt words.old self.old cell slot words.new self.new result }
     {
@@ -288,6 +297,7 @@ impl LinkedHashMap {
     }
 
     // Puts the record at the front, in the place of its key's old one where there is one, and hands that back.
+    #[tactic(auto, using(crate::proofs::Places::put_over, crate::proofs::Places::put_full, crate::proofs::Places::put_refused))]
     pub fn put(&mut self, words: &mut [u64], item: Record) -> Result<Option<Record>, PutError>
         ensures { Putting words.old self.old item words.new self.new result }
     {
@@ -344,6 +354,7 @@ impl LinkedHashMap {
     }
 
     // Takes the record at a slot, and its cell, out of the map, and hands it back.
+    #[tactic(auto, unfolding(crate::specs::Words::taken_out))]
     fn take(&mut self, words: &mut [u64], cell: usize, slot: usize) -> Record
         requires { Room (length words.old) self.old.capacity × (cell < cell_count self.old.capacity) × (slot < self.old.capacity) }
         ensures record { result ≡ record_at words.old slot }
@@ -375,6 +386,7 @@ impl LinkedHashMap {
     }
 
     // Puts a record at the front, over the one at a slot that no cell holds.
+    #[tactic(auto, using(crate::proofs::Putting::put_in_lem, cells::proofs::Probing::free_vacant))]
     fn renew(&mut self, words: &mut [u64], item: Record, slot: usize)
         requires { Room (length words.old) self.old.capacity × (slot < self.old.capacity) }
         ensures { Renewing words.old self.old item slot words.new self.new }
@@ -392,6 +404,7 @@ impl LinkedHashMap {
     }
 
     // Puts the record at a slot among the free ones.
+    #[tactic(auto, unfolding(crate::specs::Numbers::shrunk_map))]
     fn free(&mut self, words: &mut [u64], slot: usize)
         requires { Room (length words.old) self.old.capacity × (slot < self.old.capacity) }
         ensures words { words.new ≡ moved (self.old.capacity + 2) words.old (self.old.capacity + 1) slot }
@@ -401,24 +414,28 @@ impl LinkedHashMap {
         self.len = self.len.saturating_sub(1);
     }
 
+    #[tactic(auto, using(crate::proofs::Walking::first_is))]
     pub fn first(self, words: &[u64]) -> Result<Option<usize>, Unfit>
         ensures { Ending words.now self 0 result }
     {
         self.end(words, NEXT)
     }
 
+    #[tactic(auto, using(crate::proofs::Walking::last_is))]
     pub fn last(self, words: &[u64]) -> Result<Option<usize>, Unfit>
         ensures { Ending words.now self (self.len - 1) result }
     {
         self.end(words, PREVIOUS)
     }
 
+    #[tactic(auto, using(crate::proofs::Walking::next_is))]
     pub fn next(self, words: &[u64], slot: usize) -> Result<Option<usize>, Unfit>
         ensures { Next words.now self slot result }
     {
         self.beside(words, slot, NEXT)
     }
 
+    #[tactic(auto, using(crate::proofs::Walking::previous_is))]
     pub fn previous(self, words: &[u64], slot: usize) -> Result<Option<usize>, Unfit>
         ensures { Previous words.now self slot result }
     {
@@ -426,6 +443,7 @@ impl LinkedHashMap {
     }
 
     // The slot to which a link of the live ring's own node leads.
+    #[tactic(auto, unfolding(crate::specs::Calls::end_of), using(crate::proofs::Probed::err_unfit))]
     fn end(self, words: &[u64], link: usize) -> Result<Option<usize>, Unfit>
         requires { link < 5 }
         ensures { result ≡ end_of words.now self link }
@@ -435,6 +453,7 @@ impl LinkedHashMap {
     }
 
     // The slot to which a record's link leads.
+    #[tactic(auto, unfolding(crate::specs::Calls::beside), using(crate::proofs::Probed::err_unfit))]
     fn beside(self, words: &[u64], slot: usize, link: usize) -> Result<Option<usize>, Unfit>
         requires { link < 5 }
         ensures { result ≡ beside words.now self slot link }

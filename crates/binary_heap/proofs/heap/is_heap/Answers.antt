@@ -1,23 +1,8 @@
 -- The entries before i are in order.
 use native.Mathlib.Omega.{arith}
-use Rattle.binary_heap.proofs.Limits.{unfit, fitting, is_room}
-use Rattle.binary_heap.proofs.Checking.{ordered_one, ordered_next, checking_refused, checking_no, checking_yes}
+use Rattle.binary_heap.proofs.Limits.{unfit}
+use Rattle.binary_heap.proofs.Checking.{checking_no}
 use Rattle.binary_heap.proofs.heap.is_heap.Goals as goal
 
-pub returns-then-not-in_limits : goal.returns-then-not-in_limits
-returns-then-not-in_limits c = checking_refused _ (unfit c.in_limits.ensures c.if-not-in_limits.true-raw)
-
-pub loop-i-init : goal.loop-i-init
-loop-i-init c = (omega arith, ordered_one _)
-
-pub in_order-requires : goal.in_order-requires
-in_order-requires c = let r = is_room _ _ (fitting c.in_limits.ensures c.if-not-in_limits.false-raw) in omega (arith, r.words)
-
 pub returns-then-not-in_order : goal.returns-then-not-in_order
-returns-then-not-in_order c = checking_no _ c.loop-i.invariant.0 c.loop-i-test.true (unfit c.in_order.ensures c.if-not-in_order.true-raw)
-
-pub loop-i-preserved : goal.loop-i-preserved
-loop-i-preserved c = (omega arith, ordered_next _ _ c.loop-i.invariant.1 (fitting c.in_order.ensures c.if-not-in_order.false-raw))
-
-pub returns : goal.returns
-returns c = checking_yes _ (fitting c.in_limits.ensures c.if-not-in_limits.false-raw) c.loop-i-test.false c.loop-i.invariant.1
+returns-then-not-in_order c = checking_no _ (omega arith) (omega arith) (unfit c.in_order.ensures c.if-not-in_order.true-raw)

@@ -1,27 +1,21 @@
--- A store keeps the length.
-use mathlib.Core.Path.{◌∙◌}
-use native.Mathlib.Omega.{arith}
-use lib.ListN.{length-set}
-use Rattle.expiring.specs.Numbers.{with_book}
-use Rattle.expiring.proofs.Storing.{changed_size}
+-- The default lifetime is told by two numbers.
+use mathlib.Core.Path.{◌≡◌, refl}
+use Prim.Native.Nat.{ℕ}
+use mir.Val.{bool_byte}
+use Rattle.std.specs.Prelude.{Option, Some, None, is_some}
+use Rattle.std.specs.Option.{unwrap_or}
+use Rattle.time.specs.declared.duration.TtlTicks.{TtlTicks}
+use Rattle.expiring.specs.Numbers.{given_of, ticks_of, with_book}
 use Rattle.expiring.proofs.numbers.store_book.Goals as goal
 
-pub bounds-numbers-3 : goal.bounds-numbers-3
-unfolding with_book
-bounds-numbers-3 c = simp length-set (omega arith)
+given : (l : Option TtlTicks) → bool_byte (is_some l) ≡ given_of l
+given None = refl
+given (Some l) = refl
 
-pub bounds-numbers-9 : goal.bounds-numbers-9
-unfolding with_book
-bounds-numbers-9 c = simp length-set (omega arith)
-
-pub bounds-numbers-10 : goal.bounds-numbers-10
-unfolding with_book
-bounds-numbers-10 c = simp length-set (omega arith)
-
-pub shape_of-numbers : goal.shape_of-numbers
-unfolding with_book
-shape_of-numbers c = rw c.store_changed.ensures (changed_size _ _ ∙ simp length-set)
+ticks : (l : Option TtlTicks) → (unwrap_or l (record { 0 = 0 })).0 ≡ ticks_of l
+ticks None = refl
+ticks (Some l) = refl
 
 pub returns : goal.returns
 unfolding with_book
-returns c = rw (c.store_changed.ensures, c.ticks_of.ensures, c.given_of.ensures)
+returns c = rw (c.store_changed.ensures, c.is_some.ensures, c.unwrap_or.ensures, given c.args.book.default_ttl, ticks c.args.book.default_ttl) refl

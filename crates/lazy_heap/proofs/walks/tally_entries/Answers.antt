@@ -1,20 +1,15 @@
 use Rattle.lazy_heap.proofs.Tallies.{tally_start, tally_stop, tally_on, tally_end, entry_read}
+use native.Mathlib.Omega.{arith}
 use Rattle.lazy_heap.proofs.walks.tally_entries.Goals as goal
 
 pub loop-i-init : goal.loop-i-init
 loop-i-init c = tally_start _ _ _ _ _
 
-pub shape_of-tally-then-seq-e : goal.shape_of-tally-then-seq-e
-shape_of-tally-then-seq-e c = c.loop-i.invariant.size
-
 pub returns-then-seq-e : goal.returns-then-seq-e
-returns-then-seq-e c = tally_stop c.loop-i.invariant c.loop-i-test.true _ (entry_read c.loop-i-test.true c.entry_at-e.ensures) c.if-seq-e.true
+returns-then-seq-e c = tally_stop c.loop-i.invariant (omega arith) _ (entry_read (omega arith) (rw c.entries.ensures at c.entry_at-e.ensures)) c.if-seq-e.true
 
 pub loop-i-preserved : goal.loop-i-preserved
-loop-i-preserved c = rw c.see.ensures (tally_on c.loop-i.invariant c.loop-i-test.true _ (entry_read c.loop-i-test.true c.entry_at-e.ensures) c.if-seq-e.false _ c.live_slot.ensures)
-
-pub shape_of-tally : goal.shape_of-tally
-shape_of-tally c = c.loop-i.invariant.size
+loop-i-preserved c = rw c.see.ensures (tally_on c.loop-i.invariant (omega arith) _ (entry_read (omega arith) (rw c.entries.ensures at c.entry_at-e.ensures)) c.if-seq-e.false _ c.live_slot.ensures)
 
 pub returns : goal.returns
-returns c = tally_end c.loop-i.invariant c.loop-i-test.false
+returns c = tally_end c.loop-i.invariant (omega arith)

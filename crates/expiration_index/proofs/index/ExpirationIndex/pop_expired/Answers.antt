@@ -1,5 +1,6 @@
+use Rattle.std.proofs.Common.{rules}
 use Rattle.expiration_index.proofs.Calling.{popping}
 use Rattle.expiration_index.proofs.index.ExpirationIndex.pop_expired.Goals as goal
 
 pub returns : goal.returns
-returns c = popping c.pop_at_most-popped.ensures c.due_in.ensures
+returns c = popping c.pop_at_most.ensures (search rules)

@@ -1,10 +1,11 @@
 use mathlib.Core.Path.{sym, ◌∙◌}
+use Rattle.lazy_heap.proofs.Calling.{handed_on}
 use Rattle.expiring.proofs.Limits.{limits_room}
 use Rattle.expiring.proofs.Asking.{counted_none}
 use Rattle.expiring.proofs.expiring.Expiring.deadlines_held.Goals as goal
 
-pub deadlines_held_within-requires : goal.deadlines_held_within-requires
-deadlines_held_within-requires c = limits_room _ _ _ (sym c.limits.ensures ∙ c.in-Done.is)
+pub returns-in_err-limits : goal.returns-in_err-limits
+returns-in_err-limits c = rw (handed_on c.from_residual.ensures) (counted_none (sym c.limits.ensures ∙ c.in_err-limits.was))
 
-pub returns-in-Refused : goal.returns-in-Refused
-returns-in-Refused c = counted_none (sym c.limits.ensures ∙ c.in-Refused.is)
+pub deadlines_held_within-requires : goal.deadlines_held_within-requires
+deadlines_held_within-requires c = limits_room _ _ _ (sym c.limits.ensures ∙ c.in_ok-limits.was)

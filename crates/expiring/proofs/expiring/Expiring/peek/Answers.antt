@@ -5,14 +5,14 @@ use Rattle.expiring.proofs.Limits.{limits_room}
 use Rattle.expiring.proofs.Following.{follow_peek, follow_peeked}
 use Rattle.expiring.proofs.expiring.Expiring.peek.Goals as goal
 
+pub returns-in-Err : goal.returns-in-Err
+returns-in-Err c = rw c.refused.ensures (follow_limits _ _ _ _ (sym c.limits.ensures ∙ c.in-Err.is))
+
 pub is_expired-requires : goal.is_expired-requires
-is_expired-requires c = limits_room _ _ _ (sym c.limits.ensures ∙ c.in-Done.is)
+is_expired-requires c = limits_room _ _ _ (sym c.limits.ensures ∙ c.in_default.is)
 
 pub returns-then-is_expired : goal.returns-then-is_expired
-returns-then-is_expired c = let l = sym c.limits.ensures ∙ c.in-Done.is in rw c.answered.ensures (follow_peek _ _ _ l (omega (arith, c.well_formed)) c.is_expired.ensures c.if-is_expired.true)
+returns-then-is_expired c = let l = sym c.limits.ensures ∙ c.in_default.is in rw c.answered.ensures (follow_peek _ _ _ l (omega (arith, c.well_formed)) c.is_expired.ensures c.if-is_expired.true)
 
-pub returns-in-Refused : goal.returns-in-Refused
-returns-in-Refused c = rw c.refused.ensures (follow_limits _ _ _ _ (sym c.limits.ensures ∙ c.in-Refused.is))
-
-pub returns-else-is_expired : goal.returns-else-is_expired
-returns-else-is_expired c = let l = sym c.limits.ensures ∙ c.in-Done.is in rw c.answered-in-Done.ensures (follow_peeked _ _ _ l (omega (arith, c.well_formed)) c.is_expired.ensures c.if-is_expired.false c.peek.ensures c.of_found.ensures)
+pub returns : goal.returns
+returns c = let l = sym c.limits.ensures ∙ c.in_default.is in rw c.answered-2.ensures (follow_peeked _ _ _ l (omega (arith, c.well_formed)) c.is_expired.ensures c.if-is_expired.false c.peek-found.ensures (rw c.unwrap_or.ensures at c.of_found.ensures))

@@ -1,8 +1,5 @@
 use Rattle.expiring.proofs.PurgeLoop.{Progress}
 use Rattle.expiring.proofs.expiring.Expiring.purge_within.Given as goal
 
-abbrev pub invariant-loop-left : goal.invariant-loop-left
-invariant-loop-left l = Progress l.initial.words l.initial.book l.tick l.words l.book l.count l.stale l.left
-
-abbrev pub decreases-loop-left : goal.decreases-loop-left
-decreases-loop-left l = l.left
+abbrev pub invariant-loop-count : goal.invariant-loop-count
+invariant-loop-count l = Progress l.initial.words l.initial.self l.tick l.words l.self l.count l.stale

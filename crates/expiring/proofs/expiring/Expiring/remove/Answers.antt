@@ -1,8 +1,5 @@
-use native.Mathlib.Omega.{arith}
-use Rattle.expiring.proofs.Changing.{told_of}
+use borrow.Author.Rules.{rules}
 use Rattle.expiring.proofs.expiring.Expiring.remove.Goals as goal
 
--- The numbers that were stored tell the book itself.
-
 pub returns : goal.returns
-returns c = rw c.reply_in.ensures (told_of _ c.store_book.new.numbers (omega arith) c.store_book.ensures (c.remove-said.ensures.call (omega arith)))
+returns c = c.on_numbers.ensures _ _ (λ a b r a' b' p. search rules)

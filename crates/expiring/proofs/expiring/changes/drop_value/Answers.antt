@@ -1,5 +1,5 @@
-use Rattle.expiring.proofs.Changing.{taking}
+use Rattle.expiring.proofs.Changing.{valuing}
 use Rattle.expiring.proofs.expiring.changes.drop_value.Goals as goal
 
 pub returns : goal.returns
-returns c = rw c.store_list.ensures (taking c.requires _ (rw c.book_in-book.ensures at c.remove-removed.ensures))
+returns c = rw (c.unwrap_or.ensures, c.store_list.ensures) (valuing c.requires (rw c.list_in-list.ensures at c.remove-removed.ensures))

@@ -1,5 +1,5 @@
-use Rattle.expiring.proofs.Changing.{putting}
+use Rattle.expiring.proofs.Changing.{valuing}
 use Rattle.expiring.proofs.expiring.changes.put_value.Goals as goal
 
 pub returns : goal.returns
-returns c = rw c.store_list.ensures (putting c.requires _ _ (rw c.book_in-book.ensures at c.insert-put.ensures))
+returns c = rw (c.unwrap_or.ensures, c.store_list.ensures) (valuing c.requires (rw c.list_in-list.ensures at c.insert-replaced.ensures))

@@ -1,19 +1,19 @@
-use mathlib.Core.Path.{refl, sym, ◌∙◌}
-use Rattle.linked_hash_map.proofs.Places.{remove_free, remove_full, remove_refused}
-use Rattle.fast_lru.proofs.Changing.{removing_refused, removing}
+use mathlib.Core.Path.{sym, ap, ◌∙◌}
+use Rattle.std.specs.Prelude.{Ok}
+use Rattle.linked_hash_map.proofs.Places.{remove_none, full_no_map, refused_no_map}
+use Rattle.fast_lru.proofs.Changing.{changing, removing, removing_none}
 use Rattle.fast_lru.proofs.lru.FastLru.remove.Goals as goal
 
-pub returns-in-Refused : goal.returns-in-Refused
-returns-in-Refused c = removing_refused (sym c.admitted.ensures ∙ c.in-Refused.is) _
+pub returns-in-Ok-At : goal.returns-in-Ok-At
+returns-in-Ok-At c =
+    let o = c.take_at-value.ensures in
+    rw o.first (changing (sym c.admitted.ensures ∙ c.in_ok-admitted.was) (removing _ _ _ _ _ _ (o.remove _ (sym c.seek.ensures ∙ c.in-Ok-At.is ∙ ap Ok c.in-Ok-At.field-0-is))))
 
-pub returns-in-At : goal.returns-in-At
-returns-in-At c = let o = c.take_at-value.ensures in rw c.shrunk.ensures (removing (sym c.admitted.ensures ∙ c.in-Done.is) _ _ _ _ (o.remove _ _ refl (sym c.seek.ensures ∙ c.in-At.is)) (rw o.first refl))
+pub returns-in-Ok-Free : goal.returns-in-Ok-Free
+returns-in-Ok-Free c = changing (sym c.admitted.ensures ∙ c.in_ok-admitted.was) (removing _ _ _ _ _ _ (remove_none _ (sym c.seek.ensures ∙ c.in-Ok-Free.is ∙ ap Ok c.in-Ok-Free.field-0-is) (λ a s e. cc)))
 
-pub returns-in-Free : goal.returns-in-Free
-returns-in-Free c = removing (sym c.admitted.ensures ∙ c.in-Done.is) _ _ _ _ (remove_free _ (sym c.seek.ensures ∙ c.in-Free.is)) refl
+pub returns-in-Ok-Full : goal.returns-in-Ok-Full
+returns-in-Ok-Full c = changing (sym c.admitted.ensures ∙ c.in_ok-admitted.was) (removing_none _ _ _ (full_no_map c.args.key (sym c.seek.ensures ∙ c.in-Ok-Full.is ∙ ap Ok c.in-Ok-Full.field-0-is)))
 
-pub returns-in-Full : goal.returns-in-Full
-returns-in-Full c = removing (sym c.admitted.ensures ∙ c.in-Done.is) _ _ _ _ (remove_full _ (sym c.seek.ensures ∙ c.in-Full.is)) refl
-
-pub returns-in-Refused-seek : goal.returns-in-Refused-seek
-returns-in-Refused-seek c = removing (sym c.admitted.ensures ∙ c.in-Done.is) _ _ _ _ (remove_refused _ (sym c.seek.ensures ∙ c.in-Refused-seek.is)) refl
+pub returns-in-Err : goal.returns-in-Err
+returns-in-Err c = changing (sym c.admitted.ensures ∙ c.in_ok-admitted.was) (removing_none _ _ _ (refused_no_map c.args.key (sym c.seek.ensures ∙ c.in-Err.is)))

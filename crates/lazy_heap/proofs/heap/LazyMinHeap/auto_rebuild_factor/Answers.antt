@@ -1,9 +1,6 @@
-use mathlib.Core.Path.{refl, sym, ◌∙◌}
-use Rattle.lazy_heap.proofs.Asking.{asking_refused, asking_value}
+use mathlib.Core.Path.{sym, ◌∙◌}
+use Rattle.lazy_heap.proofs.Calling.{handed_on, asking_refused}
 use Rattle.lazy_heap.proofs.heap.LazyMinHeap.auto_rebuild_factor.Goals as goal
 
-pub returns-in-Refused : goal.returns-in-Refused
-returns-in-Refused c = asking_refused (sym c.heap.ensures ∙ c.in-Refused.is)
-
-pub returns-in-Done : goal.returns-in-Done
-returns-in-Done c = asking_value (sym c.heap.ensures ∙ c.in-Done.is) refl
+pub returns-in_err-heap : goal.returns-in_err-heap
+returns-in_err-heap c = rw (handed_on c.from_residual.ensures) (asking_refused (sym c.heap.ensures ∙ c.in_err-heap.was))

@@ -1,9 +1,12 @@
 use mathlib.Core.Path.{sym, ◌∙◌}
-use Rattle.lazy_heap.proofs.Calling.{call_refused, clear_call}
+use Rattle.lazy_heap.proofs.Calling.{handed_on, discards_refused, clear_map, clear_call}
 use Rattle.lazy_heap.proofs.heap.LazyMinHeap.clear.Goals as goal
 
-pub returns-in-Refused : goal.returns-in-Refused
-returns-in-Refused c = call_refused (sym c.heap.ensures ∙ c.in-Refused.is)
+pub returns-in_err-heap : goal.returns-in_err-heap
+returns-in_err-heap c = rw (handed_on c.from_residual.ensures) (discards_refused (sym c.heap.ensures ∙ c.in_err-heap.was))
 
-pub returns-in-Done : goal.returns-in-Done
-returns-in-Done c = clear_call _ (sym c.heap.ensures ∙ c.in-Done.is) c.clear-cleared.ensures c.surplus-discarded.ensures
+pub unwrap-requires : goal.unwrap-requires
+unwrap-requires c = clear_map c.args.self.now (sym c.heap.ensures ∙ c.in_ok-heap.was) c.clear.ensures
+
+pub returns : goal.returns
+returns c = clear_call c.args.self.now (sym c.heap.ensures ∙ c.in_ok-heap.was) c.clear.ensures c.surplus-discarded.ensures

@@ -1,14 +1,12 @@
-use mathlib.Core.Path.{sym, ap, ◌∙◌}
-use Rattle.lazy_heap.specs.declared.heap.Number.TheVariants as number
-use Rattle.lazy_heap.proofs.Asking.{asking_refused}
-use Rattle.lazy_heap.proofs.Calling.{limits_room}
+use mathlib.Core.Path.{sym, ◌∙◌}
+use Rattle.lazy_heap.proofs.Calling.{handed_on, limits_room, asking_refused, asking_done}
 use Rattle.lazy_heap.proofs.heap.LazyMinHeap.count_at_most.Goals as goal
 
+pub returns-in_err-heap : goal.returns-in_err-heap
+returns-in_err-heap c = rw (handed_on c.from_residual.ensures) (asking_refused (sym c.heap.ensures ∙ c.in_err-heap.was))
+
 pub count_within-requires : goal.count_within-requires
-count_within-requires c = limits_room _ _ (sym c.heap.ensures ∙ c.in-Done.is)
+count_within-requires c = limits_room _ _ (sym c.heap.ensures ∙ c.in_ok-heap.was)
 
-pub returns-in-Refused : goal.returns-in-Refused
-returns-in-Refused c = asking_refused (sym c.heap.ensures ∙ c.in-Refused.is)
-
-pub returns-in-Done : goal.returns-in-Done
-returns-in-Done c = record { outcome = sym (sym c.heap.ensures ∙ c.in-Done.is); answer = λ is. ap number.Value (c.count_within.ensures.answer is.parts is.valid) }
+pub returns : goal.returns
+returns c = asking_done (sym c.heap.ensures ∙ c.in_ok-heap.was) (λ is. c.count_within.ensures.answer is.parts is.valid)

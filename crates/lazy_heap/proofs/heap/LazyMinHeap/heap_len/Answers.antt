@@ -1,9 +1,11 @@
 use mathlib.Core.Path.{sym, ◌∙◌}
-use Rattle.lazy_heap.proofs.Asking.{asking_refused, asking_heap_len}
+use Rattle.binary_heap.proofs.Laws.{model_length}
+use Rattle.lazy_heap.specs.Words.{part}
+use Rattle.lazy_heap.proofs.Calling.{handed_on, asking_refused, asking_done}
 use Rattle.lazy_heap.proofs.heap.LazyMinHeap.heap_len.Goals as goal
 
-pub returns-in-Refused : goal.returns-in-Refused
-returns-in-Refused c = asking_refused (sym c.heap.ensures ∙ c.in-Refused.is)
+pub returns-in_err-heap : goal.returns-in_err-heap
+returns-in_err-heap c = rw (handed_on c.from_residual.ensures) (asking_refused (sym c.heap.ensures ∙ c.in_err-heap.was))
 
-pub returns-in-Done : goal.returns-in-Done
-returns-in-Done c = asking_heap_len (sym c.heap.ensures ∙ c.in-Done.is)
+pub returns : goal.returns
+returns c = asking_done (sym c.heap.ensures ∙ c.in_ok-heap.was) (λ is. sym (model_length (part c.args.self.scores.capacity c.args.words.now) c.args.self.entries))

@@ -1,13 +1,12 @@
-use mathlib.Core.Path.{sym, ◌∙◌}
-use Rattle.lazy_heap.proofs.Asking.{asking_yes, asking_no}
-use Rattle.lazy_heap.proofs.Calling.{no_heap_lem}
+use mathlib.Core.Path.{sym, ap, ◌∙◌}
+use Prim.Native.Nat.{ℕ}
+use lib.Dec.{eqb}
+use Rattle.linked_hash_map.proofs.Putting.{model_length}
+use Rattle.lazy_heap.proofs.Calling.{handed_on, asking_refused, asking_done}
 use Rattle.lazy_heap.proofs.heap.LazyMinHeap.is_empty.Goals as goal
 
-pub returns-then-self-eq0 : goal.returns-then-self-eq0
-returns-then-self-eq0 c = asking_yes (sym c.heap.ensures ∙ c.in-Done.is) c.if-self-eq0.true
+pub returns-in_err-heap : goal.returns-in_err-heap
+returns-in_err-heap c = rw (handed_on c.from_residual.ensures) (asking_refused (sym c.heap.ensures ∙ c.in_err-heap.was))
 
-pub returns-in-Refused : goal.returns-in-Refused
-returns-in-Refused c = let e = sym c.heap.ensures ∙ c.in-Refused.is in record { outcome = sym e; answer = λ is. absurd (no_heap_lem e is) }
-
-pub returns-else-self-eq0 : goal.returns-else-self-eq0
-returns-else-self-eq0 c = asking_no (sym c.heap.ensures ∙ c.in-Done.is) c.if-self-eq0.false
+pub returns : goal.returns
+returns c = asking_done (sym c.heap.ensures ∙ c.in_ok-heap.was) (λ is. ap (λ (n : ℕ). eqb n 0) (sym (model_length c.args.words.now c.args.self.scores)))

@@ -1,12 +1,12 @@
 use mathlib.Core.Path.{sym, ◌∙◌}
-use Rattle.lazy_heap.proofs.Calling.{with_room_lem, call_refused, maybe_call}
+use Rattle.lazy_heap.proofs.Calling.{handed_on, with_room_lem, discards_refused, maybe_call}
 use Rattle.lazy_heap.proofs.heap.LazyMinHeap.maybe_rebuild.Goals as goal
 
-pub fit_entries-step-requires : goal.fit_entries-step-requires
-fit_entries-step-requires c = (with_room_lem _ _ _ (sym c.heap_with_factor.ensures ∙ c.in-Done.is)).0
+pub returns-in_err-heap_with_factor : goal.returns-in_err-heap_with_factor
+returns-in_err-heap_with_factor c = rw (handed_on c.from_residual.ensures) (discards_refused (sym c.heap_with_factor.ensures ∙ c.in_err-heap_with_factor.was))
 
-pub returns-in-Refused : goal.returns-in-Refused
-returns-in-Refused c = call_refused (sym c.heap_with_factor.ensures ∙ c.in-Refused.is)
+pub fit_entries-requires : goal.fit_entries-requires
+fit_entries-requires c = (with_room_lem _ _ c.args.factor (sym c.heap_with_factor.ensures ∙ c.in_ok-heap_with_factor.was)).0
 
-pub returns-in-Done : goal.returns-in-Done
-returns-in-Done c = maybe_call _ (sym c.heap_with_factor.ensures ∙ c.in-Done.is) c.fit_entries-step.ensures
+pub returns : goal.returns
+returns c = maybe_call c.args.factor (sym c.heap_with_factor.ensures ∙ c.in_ok-heap_with_factor.was) c.fit_entries.ensures

@@ -1,18 +1,20 @@
+use mathlib.Core.Path.{◌≡◌}
+use Prim.Native.Nat.{◌-◌}
+use Rattle.std.specs.Prelude.{Some, Ok}
+use native.Mathlib.Omega.{arith}
+use Rattle.std.proofs.Common.{rules}
 use Rattle.lazy_heap.proofs.Refilling.{numbering_start, numbering_on}
-use Rattle.lazy_heap.proofs.Stepping.{numbering, numbering_none}
+use Rattle.lazy_heap.proofs.Stepping.{numbering, numbering_lost}
 use Rattle.lazy_heap.proofs.heap.LazyMinHeap.number_within.Goals as goal
 
-pub returns-then-scores : goal.returns-then-scores
-returns-then-scores c = numbering_none _ _ c.if-scores.true
+pub loop-number-init : goal.loop-number-init
+loop-number-init c = let all : c.args.scores.len - 0 ≡ c.args.scores.len = omega arith in rw all (numbering_start _ _ c.last-at.ensures)
 
-pub loop-left-init : goal.loop-left-init
-loop-left-init c = rw c.slot_number-s.ensures (numbering_start _ _ _ _ c.last.ensures)
+pub returns-in_default : goal.returns-in_default
+returns-in_default c = numbering_lost c.loop-number.invariant (omega arith) (λ s q. search rules)
 
-pub loop-left-preserved : goal.loop-left-preserved
-loop-left-preserved c = rw c.slot_number-s-in-loop-left.ensures (numbering_on c.loop-left.invariant c.loop-left-test.true _ c.record-r.ensures _ c.set_payload.ensures _ _ c.previous.ensures)
-
-pub shape_of-words : goal.shape_of-words
-shape_of-words c = c.loop-left.invariant.size
+pub loop-number-preserved : goal.loop-number-preserved
+loop-number-preserved c = let some : c.loop-number.at ≡ Ok (Some c.in-Ok-Some.s) = search rules in numbering_on c.loop-number.invariant (omega arith) some c.record-r.ensures c.set_payload.ensures c.previous-at.ensures
 
 pub returns : goal.returns
-returns c = numbering c.loop-left.invariant c.loop-left-test.false
+returns c = numbering c.loop-number.invariant (λ is. omega (arith, is.count))

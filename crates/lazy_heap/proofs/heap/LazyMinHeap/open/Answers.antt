@@ -1,9 +1,12 @@
 use mathlib.Core.Path.{sym, ◌∙◌}
-use Rattle.lazy_heap.proofs.Calling.{open_refused, open_done}
+use Rattle.lazy_heap.proofs.Calling.{handed_on, open_refused, open_map, open_done}
 use Rattle.lazy_heap.proofs.heap.LazyMinHeap.open.Goals as goal
 
-pub returns-in-Refused : goal.returns-in-Refused
-returns-in-Refused c = open_refused _ _ _ _ _ (sym c.heap_with_factor.ensures ∙ c.in-Refused.is)
+pub returns-in_err-heap_with_factor : goal.returns-in_err-heap_with_factor
+returns-in_err-heap_with_factor c = rw (handed_on c.from_residual.ensures) (open_refused (sym c.heap_with_factor.ensures ∙ c.in_err-heap_with_factor.was))
 
-pub returns-in-Done : goal.returns-in-Done
-returns-in-Done c = open_done _ _ _ (sym c.heap_with_factor.ensures ∙ c.in-Done.is) c.open-opened.ensures c.at_least_one.ensures
+pub unwrap-scores-requires : goal.unwrap-scores-requires
+unwrap-scores-requires c = open_map _ c.args.factor (sym c.heap_with_factor.ensures ∙ c.in_ok-heap_with_factor.was) c.open.ensures
+
+pub returns : goal.returns
+returns c = open_done _ c.args.factor (sym c.heap_with_factor.ensures ∙ c.in_ok-heap_with_factor.was) c.open.ensures c.args.seq _ _ c.unwrap-scores.ensures c.at_least_one.ensures

@@ -1,4 +1,5 @@
+use Rattle.lazy_heap.proofs.Calling.{place_some}
 use Rattle.lazy_heap.proofs.heap.LazyMinHeap.place_after.Goals as goal
 
-pub returns : goal.returns
-returns c = c.requires c.if-seq-eq18446744073709551615.false
+pub unwrap-requires : goal.unwrap-requires
+unwrap-requires c = place_some _ _ _ c.seek.ensures c.requires.room

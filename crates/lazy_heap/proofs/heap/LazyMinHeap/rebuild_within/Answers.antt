@@ -1,23 +1,27 @@
-use mathlib.Core.Path.{refl}
+use mathlib.Core.Path.{◌≡◌, refl}
+use Prim.Native.Nat.{◌-◌}
+use Rattle.std.proofs.Common.{rules}
+use Rattle.std.specs.Prelude.{Some, Ok}
+use native.Mathlib.Omega.{arith}
 use Rattle.lazy_heap.proofs.Settling.{room_entered}
 use Rattle.lazy_heap.proofs.Refilling.{refilling_start, refilling_on}
-use Rattle.lazy_heap.proofs.Stepping.{rebuilding, rebuilding_none}
+use Rattle.lazy_heap.proofs.Stepping.{rebuilding, rebuilding_lost}
 use Rattle.lazy_heap.proofs.heap.LazyMinHeap.rebuild_within.Goals as goal
 
-pub returns-then-scores : goal.returns-then-scores
-returns-then-scores c = rebuilding_none _ _ c.if-scores.true
+pub loop-init : goal.loop-init
+loop-init c = let all : c.args.self.now.scores.len - 0 ≡ c.args.self.now.scores.len = omega arith in rw all (refilling_start _ _ refl c.last-at.ensures)
 
-pub loop-left-init : goal.loop-left-init
-loop-left-init c = rw c.slot_number-s.ensures (refilling_start _ _ _ _ refl c.last.ensures)
+pub returns-in_default : goal.returns-in_default
+returns-in_default c = rebuilding_lost c.loop.invariant (omega arith) (λ s q. search rules)
 
-pub push-heap-requires : goal.push-heap-requires
-push-heap-requires c = room_entered c.loop-left.invariant.entered c.requires
+pub returns-in_default-2 : goal.returns-in_default-2
+returns-in_default-2 c = rebuilding_lost c.loop.invariant (omega arith) (λ s q. search rules)
 
-pub loop-left-preserved : goal.loop-left-preserved
-loop-left-preserved c = rw c.slot_number-s-in-loop-left.ensures (refilling_on c.loop-left.invariant c.loop-left-test.true _ c.record-r.ensures c.push-heap.ensures _ _ c.previous.ensures)
+pub push-requires : goal.push-requires
+push-requires c = room_entered c.loop.invariant.entered c.requires
 
-pub shape_of-words : goal.shape_of-words
-shape_of-words c = c.loop-left.invariant.entered.kept.size
+pub loop-preserved : goal.loop-preserved
+loop-preserved c = let some : c.loop.at ≡ Ok (Some c.in-Ok-Some.s) = search rules in refilling_on c.loop.invariant (omega arith) some c.record-r.ensures c.push.ensures c.previous-at.ensures
 
 pub returns : goal.returns
-returns c = rebuilding _ c.loop-left.invariant c.loop-left-test.false
+returns c = rebuilding c.loop.invariant (λ p. omega (arith, p.scores.count))

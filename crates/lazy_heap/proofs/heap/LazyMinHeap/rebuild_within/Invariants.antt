@@ -1,8 +1,6 @@
+use Prim.Native.Nat.{◌-◌}
 use Rattle.lazy_heap.proofs.Refilling.{Refilling}
 use Rattle.lazy_heap.proofs.heap.LazyMinHeap.rebuild_within.Given as goal
 
-abbrev pub invariant-loop-left : goal.invariant-loop-left
-invariant-loop-left l = Refilling l.initial.words l.initial.heap l.words l.heap l.left l.s
-
-abbrev pub decreases-loop-left : goal.decreases-loop-left
-decreases-loop-left l = l.left
+abbrev pub invariant-loop : goal.invariant-loop
+invariant-loop l = Refilling l.initial.words l.initial.self l.words l.self (l.initial.self.scores.len - l.counter) l.at

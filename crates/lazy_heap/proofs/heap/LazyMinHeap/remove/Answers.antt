@@ -1,12 +1,12 @@
-use mathlib.Core.Path.{refl, sym, ◌∙◌}
-use Rattle.lazy_heap.proofs.Calling.{no_heap_lem, limits_room, call_refused}
+use mathlib.Core.Path.{sym, ◌∙◌}
+use Rattle.lazy_heap.proofs.Calling.{handed_on, limits_room, removing, removing_refused}
 use Rattle.lazy_heap.proofs.heap.LazyMinHeap.remove.Goals as goal
 
-pub remove_within-requires : goal.remove_within-requires
-remove_within-requires c = limits_room _ _ (sym c.heap.ensures ∙ c.in-Done.is)
+pub returns-in_err-heap : goal.returns-in_err-heap
+returns-in_err-heap c = rw (handed_on c.from_residual.ensures) (removing_refused (sym c.heap.ensures ∙ c.in_err-heap.was))
 
-pub returns-in-Refused : goal.returns-in-Refused
-returns-in-Refused c = let e = sym c.heap.ensures ∙ c.in-Refused.is in record { call = call_refused e; numbers = refl; answer = λ is. absurd (no_heap_lem e is) }
+pub take_key-answer-requires : goal.take_key-answer-requires
+take_key-answer-requires c = limits_room _ _ (sym c.heap.ensures ∙ c.in_ok-heap.was)
 
-pub returns-in-Done : goal.returns-in-Done
-returns-in-Done c = c.remove_within.ensures
+pub returns : goal.returns
+returns c = removing _ c.take_key-answer.ensures (sym c.heap.ensures ∙ c.in_ok-heap.was)

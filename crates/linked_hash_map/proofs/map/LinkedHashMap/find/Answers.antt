@@ -1,5 +1,4 @@
-use mathlib.Core.Path.{sym, ◌∙◌}
-use mathlib.Core.Logic.{⊎_elim}
+use mathlib.Core.Path.{sym}
 use Rattle.linked_hash_map.proofs.Probed.{err_unfit, ends, ends_not, none_at}
 use Rattle.linked_hash_map.proofs.Finding.{finding_refused, finding_at, finding_none}
 use Rattle.linked_hash_map.proofs.map.LinkedHashMap.find.Goals as goal

@@ -1,5 +1,5 @@
 -- The probe of the old key says whether there is a record to take out.
-use mathlib.Core.Path.{sym, ◌∙◌}
+use mathlib.Core.Path.{sym}
 use Rattle.cells.proofs.Probing.{at_found}
 use Rattle.cells.proofs.Indexing.{erased_length}
 use Rattle.linked_hash_map.proofs.Probed.{ends, ends_not, ends_room, none_at}

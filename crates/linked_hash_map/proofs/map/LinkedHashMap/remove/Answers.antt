@@ -1,6 +1,6 @@
-use mathlib.Core.Path.{sym, ◌∙◌}
+use mathlib.Core.Path.{sym}
 use Rattle.cells.proofs.Probing.{at_found}
-use Rattle.linked_hash_map.proofs.Probed.{err_unfit, ends, ends_not, ends_room, none_at}
+use Rattle.linked_hash_map.proofs.Probed.{err_unfit, ends, ends_room, none_at}
 use Rattle.linked_hash_map.proofs.Putting.{removing_at}
 use Rattle.linked_hash_map.proofs.Places.{remove_none, remove_refused}
 use Rattle.linked_hash_map.proofs.map.LinkedHashMap.remove.Goals as goal

@@ -1,4 +1,4 @@
-use mathlib.Core.Path.{sym, ◌∙◌}
+use mathlib.Core.Path.{sym}
 use native.Mathlib.Omega.{arith}
 use Rattle.cells.proofs.Probing.{at_found}
 use Rattle.linked_hash_map.proofs.Probed.{ends, ends_not, ends_room, none_at}

@@ -1,0 +1,109 @@
+// What the crate `time` answers, as it is told.
+use crate::question::Question;
+use std::fmt;
+use time::{MockClock, Refusal, Tick, duration_to_ticks};
+
+#[derive(Clone, Copy)]
+pub enum Answer {
+    Ticks(u64),
+    Told(bool),
+    Expired,
+    Refused(Refusal),
+    // The answer is the lent clock's; where the two differ, it says so.
+    Stepped { lent: Step, by_value: Step },
+}
+
+// What a step of the clock answers, and what the clock reads after it.
+#[derive(Clone, Copy)]
+pub struct Step {
+    answer: Result<(), Refusal>,
+    tick: Tick,
+}
+
+impl Answer {
+    pub fn to(question: Question, clock: &mut MockClock) -> Answer {
+        match question {
+            Question::Ticks(d) => match duration_to_ticks(d) {
+                Ok(ttl) => Answer::Ticks(ttl.0),
+                Err(why) => Answer::Refused(why),
+            },
+            Question::Zero(d) => Answer::Told(d.is_zero()),
+            Question::Deadline(start, d) => match duration_to_ticks(d) {
+                Ok(ttl) => Answer::Ticks(start.deadline_from(ttl).as_u64()),
+                Err(why) => Answer::Refused(why),
+            },
+            Question::Remaining(deadline, tick) => match deadline.remaining_at(tick) {
+                Some(ttl) => Answer::Ticks(ttl.0),
+                None => Answer::Expired,
+            },
+            Question::Clock(tick) => {
+                *clock = MockClock::with_tick(tick);
+                Answer::Ticks(clock.now().as_u64())
+            }
+            Question::Set(tick) => {
+                let by_value = Step::to(clock.set(tick));
+                time::set(clock, tick);
+                let lent = Step::to(*clock);
+                Answer::Stepped { lent, by_value }
+            }
+            Question::Advance(d) => {
+                let by_value = match clock.advance(d) {
+                    Ok(after) => Step::to(after),
+                    Err(why) => Step::refused(*clock, why),
+                };
+                let lent = match time::advance(clock, d) {
+                    Ok(()) => Step::to(*clock),
+                    Err(why) => Step::refused(*clock, why),
+                };
+                Answer::Stepped { lent, by_value }
+            }
+        }
+    }
+}
+
+impl Step {
+    fn to(clock: MockClock) -> Step {
+        Step {
+            answer: Ok(()),
+            tick: clock.now(),
+        }
+    }
+
+    fn refused(clock: MockClock, why: Refusal) -> Step {
+        Step {
+            answer: Err(why),
+            tick: clock.now(),
+        }
+    }
+}
+
+impl fmt::Display for Answer {
+    fn fmt<W: fmt::Write>(&self, f: &mut fmt::Formatter<W>) -> fmt::Result {
+        match self {
+            Answer::Ticks(n) => write!(f, "{n}"),
+            Answer::Told(true) => write!(f, "yes"),
+            Answer::Told(false) => write!(f, "no"),
+            Answer::Expired => write!(f, "expired"),
+            Answer::Refused(why) => write!(f, "refused {}", why.number()),
+            Answer::Stepped { lent, by_value } => {
+                write!(f, "{lent}")?;
+                if by_value.tick != lent.tick {
+                    write!(f, ", by value {}", by_value.tick.as_u64())?;
+                }
+                if by_value.answer != lent.answer {
+                    write!(f, ", by value another outcome")?;
+                }
+                Ok(())
+            }
+        }
+    }
+}
+
+impl fmt::Display for Step {
+    fn fmt<W: fmt::Write>(&self, f: &mut fmt::Formatter<W>) -> fmt::Result {
+        match self.answer {
+            Ok(()) => write!(f, "{}", self.tick.as_u64()),
+            Err(why) => write!(f, "refused {}", why.number()),
+        }
+    }
+}

@@ -1,5 +1,0 @@
-use Rattle.expiration_index.proofs.Calling.{emptiness}
-use Rattle.expiration_index.proofs.index.ExpirationIndex.is_empty.Goals as goal
-
-pub returns : goal.returns
-returns c = emptiness c.told_in.ensures c.is_empty.ensures

@@ -1,4 +1,0 @@
-use Rattle.expiring_answers.proofs.answers.of_due.Goals as goal
-
-pub returns-in-Pair : goal.returns-in-Pair
-returns-in-Pair c = rw c.in-Pair.is
