@@ -1,14 +1,13 @@
 // The index as a layer: its numbers, and what each call does.
-ghost use Rattle.std.specs.Prelude.{◌≡◌, ◌<◌, ◌≤◌};
 ghost use Rattle.replay.specs.Runs.{Replayed};
 ghost use Rattle.replay_expiration_index.specs.Laws.{index_stored, index_past};
-ghost use Rattle.replay_expiration_index.specs.Numbers.{index_in, with_index, opened};
+ghost use Rattle.replay_expiration_index.specs.Numbers.{index_in, with_index};
 ghost use Rattle.replay_expiration_index.specs.Steps.{Ran};
 
 use expiration_index::ExpirationIndex;
 use replay::{Answer, Call, Layer, Tell, replay};
 use replay_lazy_heap::{heap_in, of_counted, of_discarded, store_heap};
-use time::{Refusal, Tick};
+use time::Tick;
 
 struct Index;
 
@@ -35,9 +34,26 @@ impl Layer for Index {
     }
 
     fn step(words: &mut [u64], index: &mut ExpirationIndex, call: Call) -> Answer {
+        let first = call.first;
+        let second = call.second;
         match call.operation {
-            0..=5 => write(words, index, call),
-            6..=12 => read(words, *index, call),
+            0 => {
+                let opening = ExpirationIndex::open(words, first as usize, second);
+                *index = opening.unwrap_or_default();
+                replay::opened(opening)
+            }
+            1 => of_discarded(index.clear(words)),
+            2 => of_counted(index.set_deadline(words, first, Tick(second))),
+            3 => of_counted(index.remove(words, first)),
+            4 => of_counted(index.next_deadline(words)),
+            5 => of_counted(index.pop_expired(words, Tick(first))),
+            6 => index.deadline_of(words, first).tell(0),
+            7 => index.contains(words, first).tell(0),
+            8 => index.expired_count(words, Tick(first)).tell(0),
+            9 => index.len(words).tell(0),
+            10 => index.is_empty(words).tell(0),
+            11 => index.heap_len(words).tell(0),
+            12 => index.check(words).tell(0),
             _ => Answer::unknown(),
         }
     }
@@ -59,47 +75,4 @@ pub extern "C" fn expiration_index_replay(
     ensures { Replayed 6 index_in Ran numbers.old words.old calls.now answers.old numbers.new words.new answers.new result }
 {
     replay::<Index>(numbers, words, calls, answers)
-}
-
-// The numbers after an opening, which are all 0 where it is refused.
-fn opened(opening: Result<ExpirationIndex, Refusal>) -> ExpirationIndex
-    ensures { result ≡ opened opening }
-{
-    opening.unwrap_or_default()
-}
-
-fn write(words: &mut [u64], index: &mut ExpirationIndex, call: Call) -> Answer
-    requires { call.operation < 6 }
-    ensures { Ran words.old index.old call words.new index.new result }
-{
-    let first = call.first;
-    let second = call.second;
-    match call.operation {
-        0 => {
-            let opening = ExpirationIndex::open(words, first as usize, second);
-            *index = opened(opening);
-            replay::opened(opening)
-        }
-        1 => of_discarded(index.clear(words)),
-        2 => of_counted(index.set_deadline(words, first, Tick(second))),
-        3 => of_counted(index.remove(words, first)),
-        4 => of_counted(index.next_deadline(words)),
-        _ => of_counted(index.pop_expired(words, Tick(first))),
-    }
-}
-
-fn read(words: &[u64], index: ExpirationIndex, call: Call) -> Answer
-    requires { (6 ≤ call.operation) × (call.operation < 13) }
-    ensures { Ran words.now index call words.now index result }
-{
-    let first = call.first;
-    match call.operation {
-        6 => index.deadline_of(words, first).tell(0),
-        7 => index.contains(words, first).tell(0),
-        8 => index.expired_count(words, Tick(first)).tell(0),
-        9 => index.len(words).tell(0),
-        10 => index.is_empty(words).tell(0),
-        11 => index.heap_len(words).tell(0),
-        _ => index.check(words).tell(0),
-    }
 }

@@ -33,6 +33,13 @@ pub data Ran (ws : List ℕ) (l : FastLru) (c : Call) : List ℕ → FastLru →
   checked : {r : Bool} → c.operation ≡ 14 → Checking ws l r → Ran ws l c ws l (of_bool r 0)
   other : 14 < c.operation → Ran ws l c ws l unknown
 
+-- an operation that has no loop of its own
+pub record Single (o : ℕ) : Type 0 where
+  pub not_insert : o ≡ 2 → ⊥
+  pub not_get : o ≡ 3 → ⊥
+  pub not_touch : o ≡ 6 → ⊥
+  pub not_peek : o ≡ 7 → ⊥
+
 -- the calls from one on, of so many, up to the k-th: they make a run of the calls before them longer
 pub record Onward (cs : List ℕ) (from count : ℕ) (ws : List ℕ) (l : FastLru) (out : List ℕ) (k : ℕ) (ws' : List ℕ) (l' : FastLru) (out' : List ℕ) : Type 0 where
   pub start : from ≤ k

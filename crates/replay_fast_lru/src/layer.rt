@@ -1,15 +1,14 @@
 // The list as a layer: its numbers, and what each call does.
-ghost use Rattle.std.specs.Prelude.{◌≡◌, ◌<◌, ◌≤◌};
+ghost use Rattle.std.specs.Prelude.{◌<◌, ◌≤◌};
 ghost use Rattle.replay.specs.Runs.{Replayed};
 ghost use Rattle.replay_fast_lru.specs.Laws.{lru_stored, lru_past};
-ghost use Rattle.replay_fast_lru.specs.Numbers.{lru_in, with_lru, opened};
-ghost use Rattle.replay_fast_lru.specs.Steps.{Ran};
+ghost use Rattle.replay_fast_lru.specs.Numbers.{lru_in, with_lru};
+ghost use Rattle.replay_fast_lru.specs.Steps.{Ran, Single};
 
 use crate::runs;
 use fast_lru::FastLru;
 use replay::{Answer, Call, Layer, Tell, replay};
 use replay_linked_hash_map::{map_in, store_map};
-use time::Refusal;
 
 struct List;
 
@@ -36,7 +35,13 @@ impl Layer for List {
     }
 
     fn step(words: &mut [u64], lru: &mut FastLru, call: Call) -> Answer {
-        step(words, lru, call)
+        match call.operation {
+            2 => runs::make::<2>(words, lru, call),
+            3 => runs::make::<3>(words, lru, call),
+            6 => runs::make::<6>(words, lru, call),
+            7 => runs::make::<7>(words, lru, call),
+            _ => single(words, lru, call),
+        }
     }
 
     fn run(words: &mut [u64], lru: &mut FastLru, calls: &[u64], answers: &mut [u64], count: usize) {
@@ -65,60 +70,28 @@ pub extern "C" fn fast_lru_replay(
     replay::<List>(numbers, words, calls, answers)
 }
 
-// The numbers after an opening, which are all 0 where it is refused.
-fn opened(opening: Result<FastLru, Refusal>) -> FastLru
-    ensures { result ≡ opened opening }
-{
-    opening.unwrap_or_default()
-}
-
-// One call. A loop over calls of one operation takes it in whole, and only that operation's arm is left.
-#[inline(always)]
-pub fn step(words: &mut [u64], lru: &mut FastLru, call: Call) -> Answer
-    ensures { Ran words.old lru.old call words.new lru.new result }
-{
-    match call.operation {
-        0..=6 => write(words, lru, call),
-        7..=14 => read(words, *lru, call),
-        _ => Answer::unknown(),
-    }
-}
-
-#[inline(always)]
-fn write(words: &mut [u64], lru: &mut FastLru, call: Call) -> Answer
-    requires { call.operation < 7 }
+// A call of an operation that has no loop of its own.
+pub fn single(words: &mut [u64], lru: &mut FastLru, call: Call) -> Answer
+    requires { Single call.operation }
     ensures { Ran words.old lru.old call words.new lru.new result }
 {
     let key = call.first;
     match call.operation {
         0 => {
             let opening = FastLru::new(words, key as usize);
-            *lru = opened(opening);
+            *lru = opening.unwrap_or_default();
             replay::opened(opening)
         }
         1 => lru.clear(words).tell(0),
-        2 => lru.insert(words, key, call.second).tell(0),
-        3 => lru.get(words, key).tell(0),
         4 => lru.remove(words, key).tell(0),
         5 => lru.pop_lru(words).tell(0),
-        _ => lru.touch(words, key).tell(0),
-    }
-}
-
-#[inline(always)]
-fn read(words: &[u64], lru: FastLru, call: Call) -> Answer
-    requires { (7 ≤ call.operation) × (call.operation < 15) }
-    ensures { Ran words.now lru call words.now lru result }
-{
-    let key = call.first;
-    match call.operation {
-        7 => lru.peek(words, key).tell(0),
         8 => lru.contains(words, key).tell(0),
         9 => lru.peek_lru(words).tell(0),
         10 => lru.recency_rank(words, key).tell(0),
         11 => lru.len(words).tell(0),
         12 => lru.is_empty(words).tell(0),
         13 => lru.capacity(words).tell(0),
-        _ => lru.check(words).tell(0),
+        14 => lru.check(words).tell(0),
+        _ => Answer::unknown(),
     }
 }

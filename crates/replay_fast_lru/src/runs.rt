@@ -2,11 +2,11 @@
 // out once, not at each call: a lookup takes two thirds of the time. The operations that are asked for most have such a loop.
 ghost use Rattle.std.specs.Prelude.{◌≡◌, ◌*◌, ◌<◌, ◌≤◌, length};
 ghost use Rattle.replay.specs.Runs.{call_at};
-ghost use Rattle.replay_fast_lru.specs.Steps.{Onward};
+ghost use Rattle.replay_fast_lru.specs.Steps.{Ran, Onward};
 
-use crate::layer::step;
+use crate::layer::single;
 use fast_lru::FastLru;
-use replay::{call_at, store_answer};
+use replay::{Answer, Call, Tell, call_at, store_answer};
 
 // Runs a call, and where it is of an operation that has a loop of its own, those after it that are too. Says which call is
 // the next.
@@ -28,7 +28,7 @@ pub fn run_on(
         6 => alike::<6>(words, lru, calls, answers, from, count),
         7 => alike::<7>(words, lru, calls, answers, from, count),
         _ => {
-            let answer = step(words, lru, call);
+            let answer = single(words, lru, call);
             store_answer(answers, from, answer);
             from + 1
         }
@@ -55,9 +55,25 @@ fn alike<const OPERATION: u64>(
             next = i;
             break;
         }
-        let answer = step(words, &mut list, call);
+        let answer = make::<OPERATION>(words, &mut list, call);
         store_answer(answers, i, answer);
     }
     *lru = list;
     next
+}
+
+// A call of the operation. The test is of a constant, so that each loop calls one function, and where nothing else calls that
+// it is taken in.
+pub fn make<const OPERATION: u64>(words: &mut [u64], lru: &mut FastLru, call: Call) -> Answer
+    requires { call.operation ≡ OPERATION }
+    ensures { Ran words.old lru.old call words.new lru.new result }
+{
+    let key = call.first;
+    match OPERATION {
+        2 => lru.insert(words, key, call.second).tell(0),
+        3 => lru.get(words, key).tell(0),
+        6 => lru.touch(words, key).tell(0),
+        7 => lru.peek(words, key).tell(0),
+        _ => single(words, lru, call),
+    }
 }

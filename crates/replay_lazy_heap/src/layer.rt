@@ -1,5 +1,4 @@
 // The heap as a layer: its numbers, and what each call does.
-ghost use Rattle.std.specs.Prelude.{◌<◌, ◌≤◌};
 ghost use Rattle.replay.specs.Runs.{Replayed};
 ghost use Rattle.replay_lazy_heap.specs.Laws.{heap_stored, heap_past};
 ghost use Rattle.replay_lazy_heap.specs.Numbers.{heap_in, with_heap};
@@ -34,10 +33,30 @@ impl Layer for Heap {
     }
 
     fn step(words: &mut [u64], heap: &mut LazyMinHeap, call: Call) -> Answer {
+        let first = call.first;
+        let second = call.second;
         match call.operation {
-            0..=5 => write(words, heap, call),
-            6..=9 => tidy(words, heap, call),
-            10..=16 => read(words, *heap, call),
+            0 => {
+                let opening = LazyMinHeap::open(words, first as usize, second as usize, call.third);
+                *heap = opening.unwrap_or_default();
+                replay::opened(opening)
+            }
+            1 => heap.set_auto_rebuild(words, first as usize).tell(0),
+            2 => of_counted(heap.update(words, first, second)),
+            3 => of_counted(heap.remove(words, first)),
+            4 => of_counted(heap.pop_best(words)),
+            5 => of_counted(heap.peek_best(words)),
+            6 => of_discarded(heap.rebuild(words)),
+            7 => of_discarded(heap.maybe_rebuild(words, first as usize)),
+            8 => of_discarded(heap.renumber_seqs(words)),
+            9 => of_discarded(heap.clear(words)),
+            10 => heap.auto_rebuild_factor(words).tell(0),
+            11 => heap.score_of(words, first).tell(0),
+            12 => heap.len(words).tell(0),
+            13 => heap.is_empty(words).tell(0),
+            14 => heap.heap_len(words).tell(0),
+            15 => heap.check(words).tell(0),
+            16 => heap.count_at_most(words, first).tell(0),
             _ => Answer::unknown(),
         }
     }
@@ -58,52 +77,4 @@ pub fn lazy_heap_replay(
     ensures { Replayed 6 heap_in Ran numbers.old words.old calls.now answers.old numbers.new words.new answers.new result }
 {
     replay::<Heap>(numbers, words, calls, answers)
-}
-
-fn write(words: &mut [u64], heap: &mut LazyMinHeap, call: Call) -> Answer
-    requires { call.operation < 6 }
-    ensures { Ran words.old heap.old call words.new heap.new result }
-{
-    let first = call.first;
-    let second = call.second;
-    match call.operation {
-        0 => {
-            let opening = LazyMinHeap::open(words, first as usize, second as usize, call.third);
-            *heap = numbers::opened(opening);
-            replay::opened(opening)
-        }
-        1 => heap.set_auto_rebuild(words, first as usize).tell(0),
-        2 => of_counted(heap.update(words, first, second)),
-        3 => of_counted(heap.remove(words, first)),
-        4 => of_counted(heap.pop_best(words)),
-        _ => of_counted(heap.peek_best(words)),
-    }
-}
-
-// All entries at once.
-fn tidy(words: &mut [u64], heap: &mut LazyMinHeap, call: Call) -> Answer
-    requires { (6 ≤ call.operation) × (call.operation < 10) }
-    ensures { Ran words.old heap.old call words.new heap.new result }
-{
-    match call.operation {
-        6 => of_discarded(heap.rebuild(words)),
-        7 => of_discarded(heap.maybe_rebuild(words, call.first as usize)),
-        8 => of_discarded(heap.renumber_seqs(words)),
-        _ => of_discarded(heap.clear(words)),
-    }
-}
-
-fn read(words: &[u64], heap: LazyMinHeap, call: Call) -> Answer
-    requires { (10 ≤ call.operation) × (call.operation < 17) }
-    ensures { Ran words.now heap call words.now heap result }
-{
-    match call.operation {
-        10 => heap.auto_rebuild_factor(words).tell(0),
-        11 => heap.score_of(words, call.first).tell(0),
-        12 => heap.len(words).tell(0),
-        13 => heap.is_empty(words).tell(0),
-        14 => heap.heap_len(words).tell(0),
-        15 => heap.check(words).tell(0),
-        _ => heap.count_at_most(words, call.first).tell(0),
-    }
 }

@@ -1,9 +1,8 @@
 // The heap's numbers in words: those of the map of scores, and three more.
 ghost use Rattle.std.specs.Prelude.{◌≡◌, ◌≤◌, length};
-ghost use Rattle.replay_lazy_heap.specs.Numbers.{heap_in, with_heap, opened};
+ghost use Rattle.replay_lazy_heap.specs.Numbers.{heap_in, with_heap};
 
 use lazy_heap::LazyMinHeap;
-use time::Refusal;
 
 pub fn heap_in(numbers: &[u64]) -> LazyMinHeap
     requires { 6 ≤ length numbers.now }
@@ -27,11 +26,4 @@ pub fn store_heap(numbers: &mut [u64], heap: LazyMinHeap)
     numbers[3] = heap.entries as u64;
     numbers[4] = heap.seq;
     numbers[5] = heap.factor as u64;
-}
-
-// The numbers after an opening, which are all 0 where it is refused.
-pub fn opened(opening: Result<LazyMinHeap, Refusal>) -> LazyMinHeap
-    ensures { result ≡ opened opening }
-{
-    opening.unwrap_or_default()
 }

@@ -1,5 +1,5 @@
 // The map as a layer: its numbers, and what each call does.
-ghost use Rattle.std.specs.Prelude.{◌≡◌, ◌<◌, ◌≤◌};
+ghost use Rattle.std.specs.Prelude.{◌≡◌};
 ghost use Rattle.replay.specs.Runs.{Replayed};
 ghost use Rattle.replay_linked_hash_map.specs.Laws.{map_stored, map_past};
 ghost use Rattle.replay_linked_hash_map.specs.Numbers.{map_in, with_map};
@@ -33,9 +33,25 @@ impl Layer for Map {
     }
 
     fn step(words: &mut [u64], map: &mut LinkedHashMap, call: Call) -> Answer {
+        let key = call.first;
         match call.operation {
-            0..=5 => write(words, map, call),
-            6..=12 => read(words, *map, call),
+            0 => {
+                let opening = LinkedHashMap::open(words, key as usize);
+                *map = opening.unwrap_or_default();
+                opening.is_ok().tell(0)
+            }
+            1 => map.clear(words).is_ok().tell(0),
+            2 => answer::of_slot(map.touch(words, key)),
+            3 => map.set_payload(words, item(call)).tell(0),
+            4 => answer::of_placed(map.put(words, item(call))),
+            5 => answer::of_taken(map.remove(words, key)),
+            6 => answer::of_slot(map.find(words, key)),
+            7 => answer::of_record(map.record(words, key as usize)),
+            8 => answer::of_slot(map.first(words)),
+            9 => answer::of_slot(map.last(words)),
+            10 => answer::of_slot(map.next(words, key as usize)),
+            11 => answer::of_slot(map.previous(words, key as usize)),
+            12 => map.check(words).tell(0),
             _ => Answer::unknown(),
         }
     }
@@ -56,41 +72,6 @@ pub fn linked_hash_map_replay(
     ensures { Replayed 3 map_in Ran numbers.old words.old calls.now answers.old numbers.new words.new answers.new result }
 {
     replay::<Map>(numbers, words, calls, answers)
-}
-
-fn write(words: &mut [u64], map: &mut LinkedHashMap, call: Call) -> Answer
-    requires { call.operation < 6 }
-    ensures { Ran words.old map.old call words.new map.new result }
-{
-    let key = call.first;
-    match call.operation {
-        0 => {
-            let opening = LinkedHashMap::open(words, key as usize);
-            *map = numbers::opened(opening);
-            opening.is_ok().tell(0)
-        }
-        1 => map.clear(words).is_ok().tell(0),
-        2 => answer::of_slot(map.touch(words, key)),
-        3 => map.set_payload(words, item(call)).tell(0),
-        4 => answer::of_placed(map.put(words, item(call))),
-        _ => answer::of_taken(map.remove(words, key)),
-    }
-}
-
-fn read(words: &[u64], map: LinkedHashMap, call: Call) -> Answer
-    requires { (6 ≤ call.operation) × (call.operation < 13) }
-    ensures { Ran words.now map call words.now map result }
-{
-    let key = call.first;
-    match call.operation {
-        6 => answer::of_slot(map.find(words, key)),
-        7 => answer::of_record(map.record(words, key as usize)),
-        8 => answer::of_slot(map.first(words)),
-        9 => answer::of_slot(map.last(words)),
-        10 => answer::of_slot(map.next(words, key as usize)),
-        11 => answer::of_slot(map.previous(words, key as usize)),
-        _ => map.check(words).tell(0),
-    }
 }
 
 fn item(call: Call) -> Record

@@ -1,8 +1,8 @@
 // The map's numbers in words, the first three of a layer's.
 ghost use Rattle.std.specs.Prelude.{◌≡◌, ◌≤◌, length};
-ghost use Rattle.replay_linked_hash_map.specs.Numbers.{map_in, with_map, opened};
+ghost use Rattle.replay_linked_hash_map.specs.Numbers.{map_in, with_map};
 
-use linked_hash_map::{LinkedHashMap, Unfit};
+use linked_hash_map::LinkedHashMap;
 
 pub fn map_in(numbers: &[u64]) -> LinkedHashMap
     requires { 3 ≤ length numbers.now }
@@ -22,11 +22,4 @@ pub fn store_map(numbers: &mut [u64], map: LinkedHashMap)
     numbers[0] = map.capacity as u64;
     numbers[1] = map.len as u64;
     numbers[2] = map.refill_in as u64;
-}
-
-// The numbers after an opening, which are all 0 where it is refused.
-pub fn opened(opening: Result<LinkedHashMap, Unfit>) -> LinkedHashMap
-    ensures { result ≡ opened opening }
-{
-    opening.unwrap_or_default()
 }

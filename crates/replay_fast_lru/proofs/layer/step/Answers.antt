@@ -1,7 +1,0 @@
--- Any operation that is none of a writer or a reader is above 14.
-use Rattle.std.proofs.Common.{arith}
-use Rattle.replay_fast_lru.specs.Steps.{other}
-use Rattle.replay_fast_lru.proofs.layer.step.Goals as goal
-
-pub returns-in_default : goal.returns-in_default
-returns-in_default c = rw c.unknown.ensures (other (omega arith))
