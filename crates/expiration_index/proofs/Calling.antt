@@ -1,6 +1,6 @@
 -- What the calls come to: the heap's own promise, read on the pairs.
 use mathlib.Core.Path.{◌≡◌, refl, sym, ap, ◌∙◌, subst}
-use mathlib.Core.Bool.{Bool, true, false, true≢false, cond}
+use mathlib.Core.Bool.{Bool, true, false, cond}
 use mathlib.Core.Logic.{inl, inr, ⊎_elim}
 use mathlib.Core.List.{List, [], ◌∷◌}
 use Prim.Native.Nat.{ℕ, ◌-◌, ◌^◌, ◌<◌}
@@ -28,7 +28,7 @@ use Rattle.expiration_index.specs.declared.index.ExpirationIndex.{ExpirationInde
 use Rattle.expiration_index.specs.Model.{Pairs, is_full, without_expired}
 use Rattle.expiration_index.specs.Answers.{deadline_in, due_in, beside}
 use Rattle.expiration_index.specs.Index.{IsIndex, deadlines, heap_of, model_of}
-use Rattle.expiration_index.specs.Calls.{limit, limits_in, Opening, Asking, Length, HeapLength, Emptiness, Containing, ExpiredCount, DeadlineOf, Checking, Call, emptied, Clearing, Removing, NextDeadline, popped_expired, PoppingExpired, Setting}
+use Rattle.expiration_index.specs.Calls.{limit, limits_in, Opening, Asking, Length, Emptiness, Containing, ExpiredCount, DeadlineOf, Call, emptied, Clearing, Removing, NextDeadline, popped_expired, PoppingExpired, Setting}
 use Rattle.expiration_index.proofs.Pairs.{deadline_pairs, held_pairs, expired_deadlines, deadlines_length, deadlines_opened, deadlines_cleared, deadlines_removed, deadlines_peeked, deadlines_updated, full_deadlines}
 use Rattle.expiration_index.proofs.Nexts.{best_due, expired_due_lem, expired_heap, expired_pairs}
 
@@ -145,9 +145,6 @@ module _ {ws : List ℕ} {x : ExpirationIndex} where
   pub length_asked : {r : Result ℕ Refusal} → heap.Asking ws x.heap len r → Length ws x r
   length_asked o = asked (sym (deadlines_length (heap_of ws x))) o
 
-  pub heap_length_asked : {r : Result ℕ Refusal} → heap.Asking ws x.heap heap_len r → HeapLength ws x r
-  heap_length_asked o = asked refl o
-
   pub expired_asked : (t : Tick) {r : Result ℕ Refusal} → heap.Asking ws x.heap (at_most t.0) r → ExpiredCount ws x t r
   expired_asked t o = asked (expired_deadlines t (heap_of ws x)) o
 
@@ -161,12 +158,6 @@ module _ {ws : List ℕ} {x : ExpirationIndex} where
   pub deadline_told : (k : ℕ) {r : Result (Option ℕ) Refusal} {a : Result (Option Tick) Refusal} → heap.Asking ws x.heap (score_of k) r → a ≡ reading deadline_in r → DeadlineOf ws x k a
   unfolding deadlines
   deadline_told k o e = rw e (asking deadline_in (λ is. deadline_pairs k (heap_of ws x).held is.heap.valid.keys) o)
-
-  pub checking : {b : Bool} → x.heap.factor ≡ 2 → heap.Checking ws x.heap b → Checking ws x b
-  checking f o = record { sound = λ q. record { heap = o.sound q; factor = f }; complete = λ is. o.complete is.heap }
-
-  pub checking_not : (x.heap.factor ≡ 2 → ⊥) → Checking ws x false
-  checking_not f = record { sound = λ q. absurd (true≢false (sym q)); complete = λ is. absurd (f is.factor) }
 
 -- ---- calls that change the index
 module _ {ws ws' : List ℕ} {x : ExpirationIndex} {h : LazyMinHeap} where

@@ -30,31 +30,27 @@ use Rattle.expiring.specs.declared.expiring.Expiring.{Expiring}
 use Rattle.expiring_model.specs.Model.{fresh, of_ticks, default_of}
 use Rattle.expiring.specs.Book.{start, Room, limit_of, rest, model_of}
 use Rattle.expiring.specs.Calls.{by_duration, opening_of, Opening}
-use Rattle.expiring.specs.Steps.{Opened}
+use Rattle.expiring.specs.Steps.{defaulted_by, Opened}
 use Rattle.expiring.proofs.Frames.{rest_back, rest_length, rest_before, rest_kept, kept_then, kept_list, kept_same}
 use Rattle.expiring.proofs.Acting.{same_book}
 use Rattle.expiring.proofs.Limits.{err_ok, same_value, never_refused}
 
--- ---- the default lifetime, in ticks if it is one
-abbrev pub asked : Option Duration → Result (Option TtlTicks) Refusal
-asked (Some d) = option_transpose (Some (ticks_of d))
-asked None = Ok None
-
+-- ---- the default lifetime
 ticks_refused : (x : Result TtlTicks Refusal) {why : Refusal} → option_transpose (Some x) ≡ Err why → outcome_of x ≡ Err why
 ticks_refused (Ok l) {why} e = absurd (err_ok why (sym e))
 ticks_refused (Err w) e = cc
 
-asked_refused : (l : Option Duration) {why : Refusal} → asked l ≡ Err why → by_duration l ≡ Err why
-asked_refused (Some d) e = ticks_refused (ticks_of d) e
-asked_refused None {why} e = absurd (err_ok why (sym e))
+defaulted_refused : (l : Option Duration) {why : Refusal} → defaulted_by l ≡ Err why → by_duration l ≡ Err why
+defaulted_refused (Some d) e = ticks_refused (ticks_of d) e
+defaulted_refused None {why} e = absurd (err_ok why (sym e))
 
 ticks_done : (x : Result TtlTicks Refusal) {t : Option TtlTicks} → option_transpose (Some x) ≡ Ok t → (outcome_of x ≡ Ok tt) × (of_ticks x ≡ t)
 ticks_done (Ok l) e = (refl, same_value e)
 ticks_done (Err w) e = absurd (err_ok w e)
 
-asked_done : (l : Option Duration) {t : Option TtlTicks} → asked l ≡ Ok t → (by_duration l ≡ Ok tt) × (default_of l ≡ t)
-asked_done (Some d) e = ticks_done (ticks_of d) e
-asked_done None e = (refl, same_value e)
+defaulted_done : (l : Option Duration) {t : Option TtlTicks} → defaulted_by l ≡ Ok t → (by_duration l ≡ Ok tt) × (default_of l ≡ t)
+defaulted_done (Some d) e = ticks_done (ticks_of d) e
+defaulted_done None e = (refl, same_value e)
 
 -- ---- refusals
 module _ (ws : List ℕ) (c d s : ℕ) (l : Option Duration) where
@@ -72,17 +68,17 @@ module _ (ws : List ℕ) (c d s : ℕ) (l : Option Duration) where
   unfolding opening_of
   opening_limits e = opening_refused (rw e)
 
-  pub opening_nanos : book_limits c d (length ws) ≡ Ok tt → {why : Refusal} → asked l ≡ Err why → Opening ws c d s l ws (Err why)
+  pub opening_nanos : book_limits c d (length ws) ≡ Ok tt → {why : Refusal} → defaulted_by l ≡ Err why → Opening ws c d s l ws (Err why)
   unfolding opening_of
-  opening_nanos limits e = opening_refused (rw limits (asked_refused l e))
+  opening_nanos limits e = opening_refused (rw limits (defaulted_refused l e))
 
-  pub opening_done : book_limits c d (length ws) ≡ Ok tt → {t : Option TtlTicks} → asked l ≡ Ok t → {ws' : List ℕ} {b : Expiring} → Opened ws c d s t ws' b → Opening ws c d s l ws' (Ok b)
+  pub opening_done : book_limits c d (length ws) ≡ Ok tt → {t : Option TtlTicks} → defaulted_by l ≡ Ok t → {ws' : List ℕ} {b : Expiring} → Opened ws c d s t ws' b → Opening ws c d s l ws' (Ok b)
   unfolding opening_of
   opening_done limits e {b = b} o = record {
-    outcome = sym (rw limits (asked_done l e).0);
+    outcome = sym (rw limits (defaulted_done l e).0);
     refused = λ why q. absurd (err_ok why (sym q));
     book = λ x q. rw (sym (same_value q)) o.book;
-    model = λ x q. rw (sym (same_value q)) (o.model ∙ ap (fresh c d) (sym (asked_done l e).1));
+    model = λ x q. rw (sym (same_value q)) (o.model ∙ ap (fresh c d) (sym (defaulted_done l e).1));
     heap = λ x q. rw (sym (same_value q)) o.heap;
     kept = o.kept;
   }

@@ -1,5 +1,5 @@
 -- The loop of a purge: how far it has come, and that it ends with every expired pair gone.
-use mathlib.Core.Path.{◌≡◌, refl, sym, ap, ◌∙◌}
+use mathlib.Core.Path.{◌≡◌, refl, sym, ap, subst, ◌∙◌}
 use mathlib.Core.Bool.{Bool, true, false, true≢false}
 use mathlib.Core.List.{List}
 use Rattle.std.specs.Prelude.{Option, Some, None, is_some, Ok}
@@ -188,5 +188,5 @@ module _ {ws ws₁ : List ℕ} {b b₁ : Expiring} {t : Tick} {n s : ℕ} (limit
   purge_ends {r = r} o end = purge_follows n (saturating_sum s r.discarded) limits (purge_moved so_far o end) (purge_count so_far o end)
 
   -- with no round left, which is no book
-  pub purge_spent : n ≡ limit_of b + 1 → Following ws b t purge_expired ws₁ (purging b₁ n s)
-  purge_spent e = purge_follows n s limits (spent_moved so_far e) (λ is. absurd (rounds_left so_far is e))
+  pub purge_spent : n ≡ limit_of b + 1 → Following ws b t purge_expired ws₁ (purging b₁ (limit_of b + 1) s)
+  purge_spent e = subst (λ (m : ℕ). Following ws b t purge_expired ws₁ (purging b₁ m s)) e (purge_follows n s limits (spent_moved so_far e) (λ is. absurd (rounds_left so_far is e)))

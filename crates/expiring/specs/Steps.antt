@@ -1,9 +1,12 @@
 -- What the private steps promise: which part of the book they change, and how.
 use Rattle.std.specs.Prelude.{◌≡◌, Bool, true, false, cond, List, ℕ, ◌+◌, ◌-◌, ◌^◌, min, length, Option, Some, None, is_some, Result, Ok, Err}
+use Rattle.std.specs.Option.{option_map, option_transpose}
 use Rattle.time.specs.declared.tick.Tick.{Tick}
+use Rattle.time.specs.declared.duration.Duration.{Duration}
 use Rattle.time.specs.declared.duration.TtlTicks.{TtlTicks}
 use Rattle.time.specs.declared.refusal.Refusal.{Refusal}
 use Rattle.time.specs.declared.refusal.Refusal.TheVariants.{KeyLimitReached}
+use Rattle.time.specs.Duration.{ticks_of}
 use Rattle.lazy_heap_model.specs.declared.counted.Counted.{Counted}
 use Rattle.lazy_heap_model.specs.Model.{opened, stale}
 use Rattle.fast_lru.specs.declared.lru.FastLru.{FastLru}
@@ -23,6 +26,10 @@ use Rattle.expiring.specs.declared.expiring.Expiring.{Expiring}
 use Rattle.expiring_model.specs.Model.{Change, keep, set, drop, drop_expired, drop_all, look, pairs_after, has_come, value_in, fresh}
 use Rattle.expiring_model.specs.Discards.{discards, heap_after}
 use Rattle.expiring.specs.Book.{capacity_of, limit_of, rest, IsBook, heap_of, model_of, Kept}
+
+-- ---- an opening
+abbrev pub defaulted_by : Option Duration → Result (Option TtlTicks) Refusal
+defaulted_by l = option_transpose (option_map ticks_of l)
 
 -- ---- the numbers
 -- "expirations (stops at u64::MAX)"

@@ -7,7 +7,7 @@ ghost use Rattle.expiring_model.specs.Model.{Call, contains, peek, get, insert, 
 ghost use Rattle.expiring.specs.Book.{Room, capacity_of, limit_of};
 ghost use Rattle.expiring.specs.Calls.{Following, Opening, Checking, DeadlinesHeld, HeapLength};
 ghost use Rattle.expiring.specs.Changes.{Changing};
-ghost use Rattle.expiring.specs.Steps.{with_expired, replying, purging, DeadlineOf, Expired, Stored, StoredCount, ExpiredCount, Moved, same, PoppingExpired, Opened};
+ghost use Rattle.expiring.specs.Steps.{defaulted_by, with_expired, replying, purging, DeadlineOf, Expired, Stored, StoredCount, ExpiredCount, Moved, same, PoppingExpired, Opened};
 
 pub mod changes;
 
@@ -28,6 +28,15 @@ pub struct Expiring {
     pub index: ExpirationIndex,
     pub default_ttl: Option<TtlTicks>,
     pub expirations: u64,
+}
+
+// The default lifetime in ticks, where there is one.
+fn default_of(default_ttl: Option<Duration>) -> Result<Option<TtlTicks>, Refusal>
+    ensures { result ≡ defaulted_by default_ttl }
+{
+    default_ttl
+        .map(|ttl| time::duration_to_ticks(ttl))
+        .transpose()
 }
 
 // A fresh list, and a fresh index in the words behind it.
@@ -66,7 +75,7 @@ impl Expiring {
         ensures { Opening words.old capacity limit seq default_ttl words.new result }
     {
         limits::book(capacity, limit, words.len())?;
-        let default_ttl = default_ttl.map(|ttl| time::duration_to_ticks(ttl)).transpose()?;
+        let default_ttl = default_of(default_ttl)?;
         Ok(open_within(words, capacity, limit, seq, default_ttl))
     }
 
@@ -284,7 +293,10 @@ impl Expiring {
     pub fn check(self, words: &[u64]) -> bool
         ensures { Checking words.now self result }
     {
-        self.limits(words.len()).is_ok() && self.check_within(words)
+        match self.limits(words.len()) {
+            Err(_) => false,
+            Ok(()) => self.check_within(words),
+        }
     }
 
     fn check_within(self, words: &[u64]) -> bool

@@ -1,13 +1,12 @@
 -- The calls that may change the list: refused, or the map's own call read as items.
 use mathlib.Core.Path.{◌≡◌, refl, sym, ap, subst, ◌∙◌}
-use mathlib.Core.Bool.{true}
 use mathlib.Core.List.{List, []}
 use Prim.Native.Nat.{ℕ}
 use native.Mathlib.Omega.{arith}
 use lib.ListN.{length}
-use Rattle.std.specs.Prelude.{Option, Some, None, Result, Ok, Err, is_some, ⊤}
+use Rattle.std.specs.Prelude.{Option, Some, None, Result, Ok, Err, is_some, slice_get, ⊤}
 use Rattle.std.proofs.lemmas.Option.{some_pair_parts}
-use Rattle.limits.specs.Limits.{map_fits, list_limits}
+use Rattle.limits.specs.Limits.{list_limits}
 use Rattle.time.specs.declared.refusal.Refusal.{Refusal}
 use Rattle.linked_hash_map.specs.declared.map.LinkedHashMap.{LinkedHashMap}
 use Rattle.linked_hash_map.specs.declared.map.Record.{Record}
@@ -21,18 +20,15 @@ use Rattle.fast_lru.specs.declared.lru.FastLru.{FastLru}
 use Rattle.fast_lru.specs.Refusals.{admitted}
 use Rattle.fast_lru_model.specs.Model.{Item, Items, has, without, value_in, item_in, value_of, to_front, last, oldest_of, popped}
 use Rattle.fast_lru.specs.Lru.{items, model_of}
-use Rattle.fast_lru.specs.Steps.{nth, taking, Stepping, ValueAt, Picking}
+use Rattle.fast_lru.specs.Steps.{taking, Stepping, ValueAt, Picking}
 use Rattle.fast_lru.specs.Calls.{IsNew, Opening, Changing}
 use Rattle.fast_lru.proofs.Items.{lookup_items, without_items, front_items}
-use Rattle.fast_lru.proofs.Limits.{done, opening_fits, fits_map, kept_same, kept_map}
+use Rattle.fast_lru.proofs.Limits.{done, opening_fits, kept_same, kept_map}
 use Rattle.fast_lru.proofs.Slots.{slot_in, key_value, has_slot}
 
 -- ---- `new`
 pub opening_refused : (ws : List ℕ) (c : ℕ) (why : Refusal) → list_limits c (length ws) ≡ Err why → Opening ws c ws (Err why)
 opening_refused ws c why p = record { refused = λ w e. (cc, refl); only = λ w e. cc; opened = λ l e. cc; kept = kept_same c ws }
-
-pub opening_fits_map : (ws : List ℕ) (c : ℕ) → list_limits c (length ws) ≡ Ok tt → map_fits c (length ws) ≡ true
-opening_fits_map ws c d = fits_map (opening_fits c (length ws) d)
 
 pub opening_done : (ws : List ℕ) (c : ℕ) (ws' : List ℕ) (m : LinkedHashMap) → list_limits c (length ws) ≡ Ok tt → calls.Opening ws c ws' (Ok m) → Opening ws c ws' (Ok (record { map = m }))
 unfolding model_of
@@ -70,8 +66,8 @@ unfolding model_of
 front_model ws l k ws' x t is = ap items (t.model is) ∙ front_items k (map.model_of ws l.map)
 
 -- the item in front is the key's
-front_value : (ws : List ℕ) (l : FastLru) (k : ℕ) (r : Record) → held.lookup k (map.model_of ws l.map) ≡ Some r → value_in (nth 0 (to_front k (model_of ws l))) ≡ value_of k (model_of ws l)
-unfolding model_of to_front nth value_of
+front_value : (ws : List ℕ) (l : FastLru) (k : ℕ) (r : Record) → held.lookup k (map.model_of ws l.map) ≡ Some r → value_in (slice_get (to_front k (model_of ws l)) 0) ≡ value_of k (model_of ws l)
+unfolding model_of to_front value_of
 front_value ws l k r e = rw (lookup_items k (map.model_of ws l.map), e)
 
 module _ (ws : List ℕ) (l : FastLru) where
@@ -102,7 +98,7 @@ module _ (ws : List ℕ) (l : FastLru) where
         value is (laws.held s i a b h) =
             let at : x ≡ Ok (Some s) = t.answer is ∙ ap Ok a in
             v.placed (t.map is) 0 (t.front is s at ∙ sym (ap slot_in at))
-            ∙ ap (λ (m : Items). value_in (nth 0 m)) (front_model ws l k ws' x t is)
+            ∙ ap (λ (m : Items). value_in (slice_get m 0)) (front_model ws l k ws' x t is)
             ∙ front_value ws l k i b
         value is (laws.absent a b h) = v.nothing (ap slot_in (t.answer is ∙ ap Ok a)) ∙ sym (key_value ws l k None b)
 

@@ -5,12 +5,12 @@ use mathlib.Core.List.{[], ◌∷◌}
 use Prim.Native.Nat.{ℕ, zero, suc}
 use lib.Dec.{eqb}
 use lib.ListN.{length, length-map}
-use Rattle.std.specs.Prelude.{Option, Some, None}
+use Rattle.std.specs.Prelude.{Option, Some, None, slice_get}
 use Rattle.linked_hash_map.specs.declared.map.Record.{Record}
 use Rattle.linked_hash_map.specs.Model as held
 use Rattle.fast_lru_model.specs.Model.{Items, lookup, has, without, to_front, Distinct}
 use Rattle.fast_lru.specs.Lru.{item_of, items}
-use Rattle.fast_lru.specs.Steps.{nth, taking}
+use Rattle.fast_lru.specs.Steps.{taking}
 
 pub length_items : (m : held.Model) → length (items m) ≡ length m
 length_items m = length-map m item_of
@@ -46,8 +46,8 @@ front_items k m = go (held.lookup k m) refl
     go (Some r) e = rw (lookup_items k m, e) (ap (λ (l : Items). item_of r ∷ l) (without_items k m))
     go None e = rw (lookup_items k m, e)
 
-pub nth_items : (i : ℕ) (m : held.Model) → nth i (items m) ≡ taking (held.nth i m)
-unfolding nth held.nth
+pub nth_items : (i : ℕ) (m : held.Model) → slice_get (items m) i ≡ taking (held.nth i m)
+unfolding held.nth
 nth_items i [] = refl
 nth_items zero (r ∷ m) = refl
 nth_items (suc i) (r ∷ m) = nth_items i m

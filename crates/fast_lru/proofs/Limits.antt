@@ -52,9 +52,15 @@ admitted_fits l size e = go (out_of_range l) e
     go false t = opening_fits _ _ t
 
 -- what fits the list fits the map
-pub fits_map : {c size : ℕ} → Fits c size → map_fits c size ≡ true
+fits_map : {c size : ℕ} → Fits c size → map_fits c size ≡ true
 unfolding map_fits
 fits_map {c} {size} f = rw (le-leb c 4096 f.limit, le-leb (8 * c + 58) size (omega (arith, f.words)))
+
+pub opening_map : (c size : ℕ) → list_limits c size ≡ Ok tt → map_fits c size ≡ true
+opening_map c size e = fits_map (opening_fits c size e)
+
+pub admitted_map : (l : FastLru) (size : ℕ) → admitted l size ≡ Ok tt → map_fits l.map.capacity size ≡ true
+admitted_map l size e = fits_map (admitted_fits l size e)
 
 -- ---- a list is admitted
 in_range : (l : FastLru) → l.map.capacity ≤ 4096 → 1 ≤ l.map.refill_in → out_of_range l ≡ false

@@ -3,32 +3,24 @@ use mathlib.Core.Path.{◌≡◌, refl, sym, ap, ◌∙◌}
 use mathlib.Core.Bool.{Bool, true, false, true≢false, cond, ◌||◌}
 use mathlib.Core.List.{[], ◌∷◌}
 use Prim.Native.Nat.{ℕ, zero, suc, ◌+◌, ◌-◌, ◌<◌, ◌≤◌}
-use native.Mathlib.Nat.{not-suc-le-zero, le_of_suc-le-suc}
 use native.Mathlib.Omega.{arith}
 use lib.Dec.{eqb}
 use lib.ListN.{length}
 use borrow.Author.Tests.{eq-eqb, ne_eqb, eqb-true, lt-ltb, le-ltb}
-use Rattle.std.specs.Prelude.{Option, Some, None}
+use Rattle.std.specs.Prelude.{Option, Some, None, slice_get}
 use Rattle.fast_lru_model.specs.Model.{Item, Items, lookup, has, without, last, less, value_of, victim, evicted, with_room, inserted, rank_from, Distinct}
-use Rattle.fast_lru.specs.Steps.{nth}
 
 -- ---- places
-pub nth_past : (i : ℕ) (l : Items) → length l ≤ i → nth i l ≡ None
-unfolding nth
-nth_past i [] h = refl
-nth_past zero (x ∷ l) h = absurd (not-suc-le-zero h)
-nth_past (suc i) (x ∷ l) h = nth_past i l (le_of_suc-le-suc h)
-
-pub last_nth : (l : Items) → last l ≡ nth (length l - 1) l
-unfolding last nth
+pub last_nth : (l : Items) → last l ≡ slice_get l (length l - 1)
+unfolding last
 last_nth [] = refl
 last_nth (x ∷ []) = refl
 last_nth (x ∷ (y ∷ l)) =
     let e : length (x ∷ (y ∷ l)) - 1 ≡ suc (length (y ∷ l) - 1) = omega arith in
-    last_nth (y ∷ l) ∙ ap (λ (n : ℕ). nth n (x ∷ (y ∷ l))) (sym e)
+    last_nth (y ∷ l) ∙ ap (λ (n : ℕ). slice_get (x ∷ (y ∷ l)) n) (sym e)
 
-pub nth_has : (i : ℕ) (l : Items) (x : Item) → nth i l ≡ Some x → has x.key l ≡ true
-unfolding nth has
+pub nth_has : (i : ℕ) (l : Items) (x : Item) → slice_get l i ≡ Some x → has x.key l ≡ true
+unfolding has
 nth_has i [] x e = cc
 nth_has zero (y ∷ l) x e = let s : y ≡ x = cc in rw (eq-eqb y.key x.key (ap (λ (z : Item). z.key) s))
 nth_has (suc i) (y ∷ l) x e = rw (nth_has i l x e) (any (eqb y.key x.key))
@@ -39,8 +31,8 @@ nth_has (suc i) (y ∷ l) x e = rw (nth_has i l x e) (any (eqb y.key x.key))
 
 -- ---- ranks
 -- no two items have one key, so where it stands is its rank
-pub rank_there : (n m k i : ℕ) (l : Items) (x : Item) → m ≡ n + i → Distinct l → nth i l ≡ Some x → x.key ≡ k → rank_from n k l ≡ Some m
-unfolding nth rank_from
+pub rank_there : (n m k i : ℕ) (l : Items) (x : Item) → m ≡ n + i → Distinct l → slice_get l i ≡ Some x → x.key ≡ k → rank_from n k l ≡ Some m
+unfolding rank_from
 rank_there n m k i [] x q d e h = cc
 rank_there n m k zero (y ∷ l) x q d e h =
     let s : y ≡ x = cc in
@@ -52,10 +44,10 @@ rank_there n m k (suc i) (y ∷ l) x q (new, d) e h =
 
 -- wherever an item of a key stands, its place is one of these
 abbrev pub Within : ℕ → Items → (ℕ → Type 0) → Type 0
-Within k l P = (i : ℕ) (x : Item) → i < length l → nth i l ≡ Some x → x.key ≡ k → P i
+Within k l P = (i : ℕ) (x : Item) → i < length l → slice_get l i ≡ Some x → x.key ≡ k → P i
 
 pub rank_nowhere : (n k : ℕ) (l : Items) → Within k l (λ i. ⊥) → rank_from n k l ≡ None
-unfolding nth rank_from
+unfolding rank_from
 rank_nowhere n k [] bare = refl
 rank_nowhere n k (x ∷ l) bare = rw (ne_eqb x.key k (bare 0 x (omega arith) refl)) (rank_nowhere (n + 1) k l (λ i y h. bare (suc i) y (omega arith)))
 

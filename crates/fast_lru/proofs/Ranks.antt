@@ -4,7 +4,7 @@ use mathlib.Core.List.{List, [], ◌∷◌}
 use Prim.Native.Nat.{ℕ, zero, suc, ◌+◌, ◌-◌, ◌<◌, ◌≤◌}
 use native.Mathlib.Omega.{arith}
 use lib.ListN.{length}
-use Rattle.std.specs.Prelude.{Option, Some, None, Result, is_some}
+use Rattle.std.specs.Prelude.{Option, Some, None, Result, is_some, slice_get}
 use Rattle.linked_hash_map.specs.declared.map.Record.{Record}
 use Rattle.linked_hash_map.specs.declared.map.Unfit.{Unfit}
 use Rattle.linked_hash_map.specs.Model as held
@@ -16,7 +16,7 @@ use Rattle.linked_hash_map.proofs.Putting.{model_length as map-length}
 use Rattle.fast_lru.specs.declared.lru.FastLru.{FastLru}
 use Rattle.fast_lru_model.specs.Model.{Item, has, rank_of}
 use Rattle.fast_lru.specs.Lru.{item_of, model_of}
-use Rattle.fast_lru.specs.Steps.{nth, RankBetween, RankOf}
+use Rattle.fast_lru.specs.Steps.{RankBetween, RankOf}
 use Rattle.fast_lru.proofs.Lists.{Within, nth_has, rank_there, rank_nowhere}
 use Rattle.fast_lru.proofs.Slots.{slot_in, model_length, model_distinct, place_item, place_past, has_slot}
 
@@ -55,7 +55,7 @@ module _ (ws : List ℕ) (l : FastLru) (k : ℕ) where
       there : (r : Record) × (held.nth p (map.model_of ws l.map) ≡ Some r)
       there = record_there p (map.model_of ws l.map) (omega (arith, map-length ws l.map, laws.place_below ws l.map p s at))
 
-      item : nth p (model_of ws l) ≡ Some (item_of there.0)
+      item : slice_get (model_of ws l) p ≡ Some (item_of there.0)
       item = place_item ws l p (Some there.0) there.1
 
       keyed : slot_of ws l.map there.0.key ≡ Some s
@@ -67,7 +67,7 @@ module _ (ws : List ℕ) (l : FastLru) (k : ℕ) where
 
       elsewhere : (s ≡ x → ⊥) → Within k (model_of ws l) (λ q. q ≡ p → ⊥)
       elsewhere ne q y b e m z =
-          let same : Some (item_of there.0) ≡ Some y = sym item ∙ ap (λ (n : ℕ). nth n (model_of ws l)) (sym z) ∙ e in
+          let same : Some (item_of there.0) ≡ Some y = sym item ∙ ap (λ (n : ℕ). slice_get (model_of ws l) n) (sym z) ∙ e in
           let one : item_of there.0 ≡ y = cc in
           let key : there.0.key ≡ k = ap (λ (y : Item). y.key) one ∙ m in
           let slots : Some s ≡ Some x = sym keyed ∙ ap (slot_of ws l.map) key ∙ found in

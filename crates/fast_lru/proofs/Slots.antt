@@ -5,7 +5,8 @@ use Prim.Native.Nat.{ℕ, ◌-◌, ◌<◌, ◌≤◌}
 use native.Mathlib.Decide.{dec_lt}
 use native.Mathlib.Omega.{arith}
 use lib.ListN.{length}
-use Rattle.std.specs.Prelude.{Option, Some, None, Result, is_some}
+use Rattle.std.specs.Prelude.{Option, Some, None, Result, is_some, slice_get}
+use Rattle.std.proofs.lemmas.Option.{slice_get_past}
 use Rattle.std.specs.Result.{result_unwrap_or}
 use Rattle.linked_hash_map.specs.declared.map.Record.{Record}
 use Rattle.linked_hash_map.specs.declared.map.Unfit.{Unfit}
@@ -18,9 +19,9 @@ use Rattle.linked_hash_map.proofs.Putting as putting
 use Rattle.fast_lru.specs.declared.lru.FastLru.{FastLru}
 use Rattle.fast_lru_model.specs.Model.{has, value_in, item_in, value_of, victim, oldest_of, Distinct}
 use Rattle.fast_lru.specs.Lru.{model_of}
-use Rattle.fast_lru.specs.Steps.{nth, taking, ValueAt, Picking, Choosing}
+use Rattle.fast_lru.specs.Steps.{taking, ValueAt, Picking, Choosing}
 use Rattle.fast_lru.proofs.Items.{length_items, lookup_items, has_items, nth_items, distinct_items}
-use Rattle.fast_lru.proofs.Lists.{nth_past, last_nth}
+use Rattle.fast_lru.proofs.Lists.{last_nth}
 
 -- the slot in what the map answers: where it refuses, none
 abbrev pub slot_in : Result (Option ℕ) Unfit → Option ℕ
@@ -40,7 +41,7 @@ module _ (ws : List ℕ) (l : FastLru) where
   unfolding value_of model_of
   key_value k o e = ap value_in (lookup_items k (map.model_of ws l.map) ∙ ap taking e)
 
-  pub place_item : (i : ℕ) (o : Option Record) → held.nth i (map.model_of ws l.map) ≡ o → nth i (model_of ws l) ≡ taking o
+  pub place_item : (i : ℕ) (o : Option Record) → held.nth i (map.model_of ws l.map) ≡ o → slice_get (model_of ws l) i ≡ taking o
   unfolding model_of
   place_item i o e = nth_items i (map.model_of ws l.map) ∙ ap taking e
 
@@ -68,8 +69,8 @@ module _ (ws : List ℕ) (l : FastLru) where
       go (yes h) = cc (laws.place_taken ws l.map i h)
       go (no h) = omega arith
 
-  pub place_none : (i : ℕ) → slot_at ws l.map i ≡ None → nth i (model_of ws l) ≡ None
-  place_none i e = nth_past i (model_of ws l) (omega (arith, place_past i e, model_length))
+  pub place_none : (i : ℕ) → slot_at ws l.map i ≡ None → slice_get (model_of ws l) i ≡ None
+  place_none i e = slice_get_past (model_of ws l) i (omega (arith, place_past i e, model_length))
 
   -- ---- `value_at`
   pub value_at : (s : ℕ) (r : Record) → calls.Reading ws l.map s r → ValueAt ws l (Some s) (Some r.first)
@@ -88,9 +89,9 @@ module _ (ws : List ℕ) (l : FastLru) where
 
   -- ---- `oldest`, `victim`
   -- the last place is that of the last item
-  oldest_at : oldest_of (model_of ws l) ≡ item_in (nth (l.map.len - 1) (model_of ws l))
+  oldest_at : oldest_of (model_of ws l) ≡ item_in (slice_get (model_of ws l) (l.map.len - 1))
   unfolding oldest_of
-  oldest_at = ap item_in (last_nth (model_of ws l)) ∙ ap (λ (n : ℕ). item_in (nth (n - 1) (model_of ws l))) model_length
+  oldest_at = ap item_in (last_nth (model_of ws l)) ∙ ap (λ (n : ℕ). item_in (slice_get (model_of ws l) (n - 1))) model_length
 
   module _ (x : Result (Option ℕ) Unfit) (end : calls.Ending ws l.map (l.map.len - 1) x) where
     last_slot : IsMap ws l.map → slot_at ws l.map (l.map.len - 1) ≡ slot_in x

@@ -1,17 +1,11 @@
 -- What the steps of the calls promise. They come once a call is admitted, so they refuse nothing.
-use Rattle.std.specs.Prelude.{◌≡◌, false, List, [], ◌∷◌, ℕ, zero, suc, ◌-◌, ◌≤◌, length, Option, Some, None, option_map}
+use Rattle.std.specs.Prelude.{◌≡◌, false, List, ℕ, ◌-◌, ◌≤◌, length, Option, Some, None, option_map, slice_get}
 use Rattle.linked_hash_map.specs.declared.map.Record.{Record}
 use Rattle.linked_hash_map.specs.Map.{IsMap, slot_of, slot_at}
 use Rattle.linked_hash_map.specs.Words as words
 use Rattle.fast_lru.specs.declared.lru.FastLru.{FastLru}
 use Rattle.fast_lru_model.specs.Model.{Item, Items, has, value_in, item_in, value_of, victim, inserted, oldest_of, rank_of}
 use Rattle.fast_lru.specs.Lru.{item_of, model_of}
-
--- the i-th item, counted from 0
-unfoldable pub nth : ℕ → Items → Option Item
-nth i [] = None
-nth zero (x ∷ l) = Some x
-nth (suc i) (x ∷ l) = nth i l
 
 -- what the map holds or took out, read as an item
 abbrev pub taking : Option Record → Option Item
@@ -29,7 +23,7 @@ pub record Stepping {A : Type 0} (ws : List ℕ) (l : FastLru) (answer_of : Item
 pub record ValueAt (ws : List ℕ) (l : FastLru) (x r : Option ℕ) : Type 0 where
   pub nothing : x ≡ None → r ≡ None
   pub keyed : IsMap ws l.map → (k : ℕ) → slot_of ws l.map k ≡ x → r ≡ value_of k (model_of ws l)
-  pub placed : IsMap ws l.map → (i : ℕ) → slot_at ws l.map i ≡ x → r ≡ value_in (nth i (model_of ws l))
+  pub placed : IsMap ws l.map → (i : ℕ) → slot_at ws l.map i ≡ x → r ≡ value_in (slice_get (model_of ws l) i)
 
 -- `oldest`
 pub record Picking (ws : List ℕ) (l : FastLru) (r : Option (ℕ × ℕ)) : Type 0 where

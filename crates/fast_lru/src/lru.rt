@@ -18,10 +18,10 @@ pub struct FastLru {
 
 const MAX_CAPACITY: usize = 4096;
 
-// The map refuses nothing that the list has admitted, so its refusals are never met: where one would be, there is no slot.
+// The map refuses nothing that the list has admitted: its refusals are never met, and stand for no slot.
 impl FastLru {
     // The empty list, in words of any contents.
-    #[tactic(auto, using(crate::proofs::Changing::opening_refused, crate::proofs::Changing::opening_fits_map, crate::proofs::Changing::opening_done))]
+    #[tactic(auto, using(crate::proofs::Changing::opening_refused, crate::proofs::Limits::opening_map, crate::proofs::Changing::opening_done))]
     pub fn new(words: &mut [u64], capacity: usize) -> Result<FastLru, Refusal>
         ensures { Opening words.old capacity words.new result }
     {
@@ -141,6 +141,7 @@ impl FastLru {
                 self.place_evicting(words, item);
                 None
             }
+            // Neither is met in a list.
             Ok(Probe::Full) => None,
             Err(_) => None,
         }
@@ -174,6 +175,7 @@ impl FastLru {
                 Ok(Some(value))
             }
             Ok(Probe::Free(_)) => Ok(None),
+            // Neither is met in a list. (Three arms: with one pattern the proof does not see that the key is missing.)
             Ok(Probe::Full) => Ok(None),
             Err(_) => Ok(None),
         }
@@ -187,6 +189,7 @@ impl FastLru {
         let Some((key, value)) = self.oldest(words) else {
             return Ok(None);
         };
+        // The record that goes is the item's.
         let _ = self.map.remove(words, key);
         Ok(Some((key, value)))
     }
@@ -208,11 +211,12 @@ impl FastLru {
         Some((record.key, record.first))
     }
 
+    #[tactic(auto, using(crate::proofs::Limits::list_admitted, crate::proofs::Limits::admitted_map))]
     pub fn clear(&mut self, words: &mut [u64]) -> Result<(), Refusal>
         ensures { Clearing words.old self.old words.new self.new result }
     {
         self.admitted(words.len())?;
-        let _ = self.map.clear(words);
+        self.map.clear(words).unwrap();
         Ok(())
     }
 

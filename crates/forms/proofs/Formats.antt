@@ -2,7 +2,7 @@
 use mathlib.Core.Path.{◌≡◌, refl, sym, ap, ◌∙◌}
 use mathlib.Core.Bool.{Bool, true, false, not, cond, ◌&&◌, true≢false}
 use mathlib.Core.List.{List, [], ◌∷◌, ◌++◌, append-nil}
-use mathlib.Core.Option.{Option, none, some}
+use Rattle.std.specs.Prelude.{Option, None, Some}
 use Prim.Native.Nat.{ℕ, suc, ◌^◌, ◌<◌}
 use borrow.Author.Tests.{eqb-true, eqb-false, eq-eqb, not-true}
 use lib.Dec.{ltb, eqb}
@@ -34,7 +34,7 @@ module _ (k : ℕ) (found f : List ℕ) where
   unfolding read_from
   byte_on c s z = simp (z, eq-eqb c c refl)
 
-  byte_off : (c d : ℕ) (s : List ℕ) → eqb c 48 ≡ false → eqb d c ≡ false → read_from k found (c ∷ f) (d ∷ s) ≡ none
+  byte_off : (c d : ℕ) (s : List ℕ) → eqb c 48 ≡ false → eqb d c ≡ false → read_from k found (c ∷ f) (d ∷ s) ≡ None
   unfolding read_from
   byte_off c d s z e = simp (z, e)
 
@@ -96,22 +96,22 @@ abbrev pub noted : List ℕ → ℕ → List ℕ → List ℕ
 noted [] k found = found
 noted (n ∷ ns) k found = noted ns (suc k) (set found k n)
 
-all_read : (ns : List ℕ) (k : ℕ) (found s : List ℕ) → onward ns k found [] s ≡ some (noted ns k found, s)
+all_read : (ns : List ℕ) (k : ℕ) (found s : List ℕ) → onward ns k found [] s ≡ Some (noted ns k found, s)
 unfolding read_from
 all_read [] k found s = refl
 all_read (n ∷ ns) k found s = all_read ns (suc k) (set found k n) s
 
-unread : (ns : List ℕ) (k : ℕ) (found f : List ℕ) (c d : ℕ) (s : List ℕ) → eqb c 48 ≡ false → eqb d c ≡ false → onward ns k found (c ∷ f) (d ∷ s) ≡ none
+unread : (ns : List ℕ) (k : ℕ) (found f : List ℕ) (c d : ℕ) (s : List ℕ) → eqb c 48 ≡ false → eqb d c ≡ false → onward ns k found (c ∷ f) (d ∷ s) ≡ None
 unread [] k found f c d s z e = byte_off k found f c d s z e
 unread (n ∷ ns) k found f c d s z e = unread ns (suc k) (set found k n) f c d s z e
 
 module _ (p ns : List ℕ) (b : Small ns) where
-  pub prefix_read : (g ms : List ℕ) → fitting 0 p g ns ≡ true → read_in p (fill (p ++ g) (ns ++ ms)) ≡ some (noted ns 0 zeros, fill g ms)
+  pub prefix_read : (g ms : List ℕ) → fitting 0 p g ns ≡ true → read_in p (fill (p ++ g) (ns ++ ms)) ≡ Some (noted ns 0 zeros, fill g ms)
   prefix_read g ms h = rw append-nil at (begin_alike p 0 zeros [] g ns ms h b ∙ all_read ns 0 zeros (fill g ms))
 
-  pub own_read : fitting 0 p [] ns ≡ true → whole p (fill p ns) ≡ some (noted ns 0 zeros)
+  pub own_read : fitting 0 p [] ns ≡ true → whole p (fill p ns) ≡ Some (noted ns 0 zeros)
   unfolding fill
   own_read h = ap only (simp append-nil at (prefix_read [] [] h))
 
-  pub differ : (c : ℕ) (f : List ℕ) (d : ℕ) (g ms : List ℕ) → fitting 0 p (d ∷ g) ns ≡ true → eqb c 48 ≡ false → eqb d 48 ≡ false → eqb d c ≡ false → read_in (p ++ (c ∷ f)) (fill (p ++ (d ∷ g)) (ns ++ ms)) ≡ none
+  pub differ : (c : ℕ) (f : List ℕ) (d : ℕ) (g ms : List ℕ) → fitting 0 p (d ∷ g) ns ≡ true → eqb c 48 ≡ false → eqb d 48 ≡ false → eqb d c ≡ false → read_in (p ++ (c ∷ f)) (fill (p ++ (d ∷ g)) (ns ++ ms)) ≡ None
   differ c f d g ms h z y e = begin_alike p 0 zeros (c ∷ f) (d ∷ g) ns ms h b ∙ rw (fill_other d g ms (eqb-false d 48 y)) (unread ns 0 zeros f c d (fill g ms) z e)

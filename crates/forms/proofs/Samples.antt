@@ -1,6 +1,7 @@
 -- Worked examples: what each line is read as, by computation.
 use mathlib.Core.Path.{◌≡◌, refl}
 use mathlib.Core.List.{List, [], ◌∷◌, map}
+use Rattle.std.specs.Prelude.{Option, None, Some}
 use Prim.Native.String.{String}
 use Rattle.text.specs.Text.{bytes}
 use Rattle.text.specs.Reading.{read_on, read_number, read_from}
@@ -8,15 +9,18 @@ use Rattle.forms.specs.declared.form.Call.TheVariants as call
 use Rattle.forms.specs.declared.form.Form.{Form}
 use Rattle.forms.specs.declared.form.Form.TheVariants as form
 use Rattle.forms.specs.Forms.{Reads}
-use Rattle.forms.specs.Reading.{put_in, get_in, status_in, ttl_in, drop_in, has_in, live_in, clear_in, by_letter, call_in, book_in, form_in}
+use Rattle.forms.specs.Reading.{put_in, peek_in, ttl_in, by_letter, call_in, book_in, form_in}
 use Rattle.forms.proofs.Spellings.{parsed}
 
 pub record Sample : Type 0 where
   pub line : String
-  pub form : Form
+  pub form : Option Form
 
 abbrev is : String → Form → Sample
-is s f = record { line = s; form = f }
+is s f = record { line = s; form = Some f }
+
+abbrev is_none : String → Sample
+is_none s = record { line = s; form = None }
 
 abbrev pub Hold : List Sample → Type 0
 Hold [] = Unit
@@ -32,33 +36,33 @@ abbrev pub samples : List Sample
 samples =
     -- document 01's session
     is "(book 2 4 0)" (form.Book 2 4 0)
-    ∷ is "(at 1000 (put 7 70 (ttl 2 0)))" (form.At 1000 (call.PutWithTtl 7 70 2 0))
+    ∷ is "(at 1000 (put 7 70 (ttl 2 0)))" (form.At 1000 (call.PutWithTtl 7 70 (record { secs = 2; nanos = 0 })))
     ∷ is "(at 3000 (get 7))" (form.At 3000 (call.Get 7))
     ∷ is "(at 3000 (due))" (form.At 3000 call.Due)
     -- the other forms
-    ∷ is "(book 2 4 0 (ttl 0 5000000))" (form.BookWithTtl 2 4 0 0 5000000)
+    ∷ is "(book 2 4 0 (ttl 0 5000000))" (form.BookWithTtl 2 4 0 (record { secs = 0; nanos = 5000000 }))
     ∷ is "(at 0 (put 7 70))" (form.At 0 (call.Put 7 70))
     ∷ is "(at 0 (peek 7))" (form.At 0 (call.Peek 7))
     ∷ is "(at 0 (has 7))" (form.At 0 (call.Has 7))
     ∷ is "(at 0 (drop 7))" (form.At 0 (call.Drop 7))
-    ∷ is "(at 0 (ttl 7 2 500))" (form.At 0 (call.Ttl 7 2 500))
+    ∷ is "(at 0 (ttl 7 2 500))" (form.At 0 (call.Ttl 7 (record { secs = 2; nanos = 500 })))
     ∷ is "(at 0 (status 7))" (form.At 0 (call.Status 7))
     ∷ is "(at 0 (purge))" (form.At 0 call.Purge)
     ∷ is "(at 0 (live))" (form.At 0 call.Live)
     ∷ is "(at 0 (clear))" (form.At 0 call.Clear)
     -- the largest number, and one more
     ∷ is "(at 18446744073709551615 (due))" (form.At 18446744073709551615 call.Due)
-    ∷ is "(at 18446744073709551616 (due))" form.Nothing
+    ∷ is_none "(at 18446744073709551616 (due))"
     -- a leading zero, two spaces, a byte after the form, a bracket too few, a name cut short, and no byte at all
-    ∷ is "(at 3000 (get 07))" form.Nothing
-    ∷ is "(at 3000  (get 7))" form.Nothing
-    ∷ is "(at 3000 (get 7)))" form.Nothing
-    ∷ is "(book 2 4 0) " form.Nothing
-    ∷ is "(at 3000 (get 7)" form.Nothing
-    ∷ is "(at 3000 (ge 7))" form.Nothing
-    ∷ is "" form.Nothing
+    ∷ is_none "(at 3000 (get 07))"
+    ∷ is_none "(at 3000  (get 7))"
+    ∷ is_none "(at 3000 (get 7)))"
+    ∷ is_none "(book 2 4 0) "
+    ∷ is_none "(at 3000 (get 7)"
+    ∷ is_none "(at 3000 (ge 7))"
+    ∷ is_none ""
     ∷ []
 
 pub samples_hold : Hold samples
-unfolding read_on read_number read_from put_in get_in status_in ttl_in drop_in has_in live_in clear_in by_letter call_in book_in form_in
+unfolding read_on read_number read_from put_in peek_in ttl_in by_letter call_in book_in form_in
 samples_hold = all_hold samples refl

@@ -1,33 +1,40 @@
 -- What the parser's steps come to. That this reads each form from its text, and nothing else, is shown in proofs/.
-use Rattle.std.specs.Prelude.{◌≡◌, true, cond, List, [], ◌∷◌, ◌++◌, ℕ, ltb, eqb, length, get_or, drop}
-use Rattle.std.proofs.Math.Option.{Option, none, some}
-use Rattle.text.specs.declared.number.Number.{Number}
+use Rattle.std.specs.Prelude.{◌≡◌, Option, None, Some, true, cond, List, [], ◌∷◌, ◌++◌, ℕ, suc, ◌<◌, ltb, eqb, length, get_or, drop, set}
+use Rattle.std.specs.Option.{option_map, option_or}
 use Rattle.text.specs.Text.{bytes}
 use Rattle.text.specs.Reading.{read_from, read_in, plain}
+use Rattle.forms.specs.declared.form.Call.{Call}
 use Rattle.forms.specs.declared.form.Call.TheVariants as call
 use Rattle.forms.specs.declared.form.Form.{Form}
 use Rattle.forms.specs.declared.form.Form.TheVariants as form
+use Rattle.forms.specs.declared.form.Lifetime.{Lifetime}
 
 -- ---- the numbers that a format finds in a whole text
 abbrev pub only : Option (List ℕ × List ℕ) → Option (List ℕ)
-only none = none
-only (some (ns, [])) = some ns
-only (some (ns, c ∷ s)) = none
+only None = None
+only (Some (ns, [])) = Some ns
+only (Some (ns, c ∷ s)) = None
 
 abbrev pub whole : List ℕ → List ℕ → Option (List ℕ)
 whole f s = only (read_in f s)
 
 -- a call's only number, with its name before it and two brackets behind it
-abbrev pub numbers_in : Number → Option (List ℕ)
-numbers_in r = cond r.is_number (some (r.value ∷ 0 ∷ 0 ∷ 0 ∷ 0 ∷ [])) none
+abbrev pub numbers_in : Option ℕ → Option (List ℕ)
+numbers_in r = option_map (λ n. n ∷ 0 ∷ 0 ∷ 0 ∷ 0 ∷ []) r
 
-pub record ReadsOnly (line : List ℕ) (at : ℕ) (name : List ℕ) (r : Number) : Type 0 where
+pub record ReadsOnly (line : List ℕ) (at : ℕ) (name : List ℕ) (r : Option ℕ) : Type 0 where
   pub numbers : plain name ≡ true → numbers_in r ≡ whole (name ++ bytes "0))") (drop at line)
 
+-- a lifetime's two numbers, behind k others
+abbrev pub lifetime_in : ℕ → List ℕ → Option Lifetime → Option (List ℕ)
+lifetime_in k ns r = option_map (λ l. set (set ns k l.secs) (suc k) l.nanos) r
+
+pub record ReadsLifetime (line : List ℕ) (at : ℕ) (before behind : List ℕ) (r : Option Lifetime) : Type 0 where
+  pub numbers : plain before ≡ true → plain behind ≡ true → (k : ℕ) → k < 4 → (ns : List ℕ) → lifetime_in k ns r ≡ only (read_from k ns (before ++ (48 ∷ 32 ∷ 48 ∷ behind)) (drop at line))
+
 -- ---- calls, from their name on: the first format that fits
-abbrev pub or_else : Option (List ℕ) → (List ℕ → Form) → Form → Form
-or_else none f g = g
-or_else (some ns) f g = f ns
+abbrev pub by_format : {A : Type 0} → List ℕ → (List ℕ → A) → List ℕ → Option A
+by_format f make s = option_map make (whole f s)
 
 abbrev pub first : List ℕ → ℕ
 first ns = get_or ns 0 0
@@ -44,76 +51,51 @@ fourth ns = get_or ns 3 0
 abbrev pub fifth : List ℕ → ℕ
 fifth ns = get_or ns 4 0
 
--- after the key, or the key and the value
-unfoldable pub put_with_ttl_in : ℕ → ℕ → ℕ → List ℕ → Form
-put_with_ttl_in t k v s = or_else (only (read_from 2 (k ∷ v ∷ 0 ∷ 0 ∷ 0 ∷ []) (bytes " (ttl 0 0)))") s)) (λ ns. form.At t (call.PutWithTtl (first ns) (second ns) (third ns) (fourth ns))) form.Nothing
+unfoldable pub put_in : List ℕ → Option Call
+put_in s = option_or (by_format (bytes "put 0 0 (ttl 0 0)))") (λ ns. call.PutWithTtl (first ns) (second ns) (record { secs = third ns; nanos = fourth ns })) s) (by_format (bytes "put 0 0))") (λ ns. call.Put (first ns) (second ns)) s)
 
-unfoldable pub put_on : ℕ → ℕ → List ℕ → Form
-put_on t k s =
-    or_else (only (read_from 1 (k ∷ 0 ∷ 0 ∷ 0 ∷ 0 ∷ []) (bytes " 0 (ttl 0 0)))") s))
-    (λ ns. form.At t (call.PutWithTtl (first ns) (second ns) (third ns) (fourth ns)))
-    (or_else (only (read_from 1 (k ∷ 0 ∷ 0 ∷ 0 ∷ 0 ∷ []) (bytes " 0))") s)) (λ ns. form.At t (call.Put (first ns) (second ns))) form.Nothing)
+-- with its name, and its number
+abbrev pub one_in : List ℕ → (ℕ → Call) → List ℕ → Option Call
+one_in name make s = by_format (name ++ bytes "0))") (λ ns. make (first ns)) s
 
-unfoldable pub put_in : ℕ → List ℕ → Form
-put_in t s =
-    or_else (whole (bytes "put 0 0 (ttl 0 0)))") s)
-    (λ ns. form.At t (call.PutWithTtl (first ns) (second ns) (third ns) (fourth ns)))
-    (or_else (whole (bytes "put 0 0))") s)
-    (λ ns. form.At t (call.Put (first ns) (second ns)))
-    (or_else (whole (bytes "peek 0))") s) (λ ns. form.At t (call.Peek (first ns))) (or_else (whole (bytes "purge))") s) (λ ns. form.At t call.Purge) form.Nothing)))
+-- with its name alone
+abbrev pub none_in : List ℕ → Call → List ℕ → Option Call
+none_in name c s = by_format name (λ _. c) s
 
-unfoldable pub get_in : ℕ → List ℕ → Form
-get_in t s = or_else (whole (bytes "get 0))") s) (λ ns. form.At t (call.Get (first ns))) form.Nothing
+unfoldable pub peek_in : List ℕ → Option Call
+peek_in s = option_or (one_in (bytes "peek ") call.Peek s) (none_in (bytes "purge))") call.Purge s)
 
-unfoldable pub status_in : ℕ → List ℕ → Form
-status_in t s = or_else (whole (bytes "status 0))") s) (λ ns. form.At t (call.Status (first ns))) form.Nothing
-
-unfoldable pub ttl_in : ℕ → List ℕ → Form
-ttl_in t s = or_else (whole (bytes "ttl 0 0 0))") s) (λ ns. form.At t (call.Ttl (first ns) (second ns) (third ns))) form.Nothing
-
-unfoldable pub drop_in : ℕ → List ℕ → Form
-drop_in t s = or_else (whole (bytes "drop 0))") s) (λ ns. form.At t (call.Drop (first ns))) (or_else (whole (bytes "due))") s) (λ ns. form.At t call.Due) form.Nothing)
-
-unfoldable pub has_in : ℕ → List ℕ → Form
-has_in t s = or_else (whole (bytes "has 0))") s) (λ ns. form.At t (call.Has (first ns))) form.Nothing
-
-unfoldable pub live_in : ℕ → List ℕ → Form
-live_in t s = or_else (whole (bytes "live))") s) (λ ns. form.At t call.Live) form.Nothing
-
-unfoldable pub clear_in : ℕ → List ℕ → Form
-clear_in t s = or_else (whole (bytes "clear))") s) (λ ns. form.At t call.Clear) form.Nothing
+unfoldable pub ttl_in : List ℕ → Option Call
+ttl_in s = by_format (bytes "ttl 0 0 0))") (λ ns. call.Ttl (first ns) (record { secs = second ns; nanos = third ns })) s
 
 -- by the first letter
-unfoldable pub by_letter : ℕ → ℕ → List ℕ → Form
-by_letter c t s =
+unfoldable pub by_letter : ℕ → List ℕ → Option Call
+by_letter c s =
     cond (eqb c 112)
-    (put_in t s)
+    (option_or (put_in s) (peek_in s))
     (cond (eqb c 103)
-    (get_in t s)
+    (one_in (bytes "get ") call.Get s)
     (cond (eqb c 115)
-    (status_in t s)
+    (one_in (bytes "status ") call.Status s)
     (cond (eqb c 116)
-    (ttl_in t s)
-    (cond (eqb c 100) (drop_in t s) (cond (eqb c 104) (has_in t s) (cond (eqb c 108) (live_in t s) (cond (eqb c 99) (clear_in t s) form.Nothing)))))))
+    (ttl_in s)
+    (cond (eqb c 100)
+    (option_or (one_in (bytes "drop ") call.Drop s) (none_in (bytes "due))") call.Due s))
+    (cond (eqb c 104)
+    (one_in (bytes "has ") call.Has s)
+    (cond (eqb c 108) (none_in (bytes "live))") call.Live s) (cond (eqb c 99) (none_in (bytes "clear))") call.Clear s) None)))))))
 
-unfoldable pub call_in : ℕ → List ℕ → Form
-call_in t [] = form.Nothing
-call_in t (c ∷ s) = by_letter c t (c ∷ s)
+unfoldable pub call_in : List ℕ → Option Call
+call_in [] = None
+call_in (c ∷ s) = by_letter c (c ∷ s)
 
--- after the first sequence number
-unfoldable pub book_with_ttl_in : ℕ → ℕ → ℕ → List ℕ → Form
-book_with_ttl_in c d n s = or_else (only (read_from 3 (c ∷ d ∷ n ∷ 0 ∷ 0 ∷ []) (bytes " (ttl 0 0))") s)) (λ ns. form.BookWithTtl (first ns) (second ns) (third ns) (fourth ns) (fifth ns)) form.Nothing
-
-unfoldable pub book_in : List ℕ → Form
-book_in s =
-    or_else (whole (bytes "(book 0 0 0)") s)
-    (λ ns. form.Book (first ns) (second ns) (third ns))
-    (or_else (whole (bytes "(book 0 0 0 (ttl 0 0))") s) (λ ns. form.BookWithTtl (first ns) (second ns) (third ns) (fourth ns) (fifth ns)) form.Nothing)
+unfoldable pub book_in : List ℕ → Option Form
+book_in s = option_or (by_format (bytes "(book 0 0 0)") (λ ns. form.Book (first ns) (second ns) (third ns)) s) (by_format (bytes "(book 0 0 0 (ttl 0 0))") (λ ns. form.BookWithTtl (first ns) (second ns) (third ns) (record { secs = fourth ns; nanos = fifth ns })) s)
 
 -- ---- a line
-abbrev pub call_or_book : Option (List ℕ × List ℕ) → List ℕ → Form
-call_or_book none s = book_in s
-call_or_book (some (ns, rest)) s = call_in (first ns) rest
+abbrev pub call_or_book : Option (List ℕ × List ℕ) → List ℕ → Option Form
+call_or_book None s = book_in s
+call_or_book (Some (ns, rest)) s = option_map (λ c. form.At (first ns) c) (call_in rest)
 
-unfoldable pub form_in : List ℕ → Form
-form_in s = cond (ltb 200 (length s)) form.Nothing (call_or_book (read_in (bytes "(at 0 (") s) s)
+unfoldable pub form_in : List ℕ → Option Form
+form_in s = cond (ltb 200 (length s)) None (call_or_book (read_in (bytes "(at 0 (") s) s)

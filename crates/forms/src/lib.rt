@@ -4,4 +4,4 @@
 
 mod form;
 
-pub use form::{Call, Form, parse};
+pub use form::{Call, Form, Lifetime, parse};

@@ -1,10 +1,11 @@
 -- The first live entry: told, or taken.
 use mathlib.Core.Path.{◌≡◌, refl, sym, ap, ◌∙◌, subst}
+use mathlib.Core.Bool.{Bool, true, false, cond}
 use mathlib.Core.List.{List, [], ◌∷◌}
-use Prim.Native.Nat.{ℕ, ◌<◌, ◌≤◌}
+use Prim.Native.Nat.{ℕ}
 use native.Mathlib.Omega.{arith}
+use lib.Dec.{leb}
 use lib.ListN.{length}
-use borrow.Author.Tests.{le-leb, lt-leb}
 use Rattle.std.specs.Prelude.{Option, None, Some, Result, Ok}
 use Rattle.limits.specs.Limits.{heap_limits}
 use Rattle.time.specs.declared.refusal.Refusal.{Refusal}
@@ -17,7 +18,7 @@ use Rattle.lazy_heap.specs.Words.{Kept}
 use Rattle.lazy_heap_model.specs.Model.{Heap, best_in, from_live, stale, removed, peeked, popped, popped_from}
 use Rattle.lazy_heap.specs.Valid.{Valid}
 use Rattle.lazy_heap.specs.Heap.{held_of, entries_of, model_of, Parts, IsHeap}
-use Rattle.lazy_heap.specs.Steps.{best_of, Discarding, Peeking, Popping, Taking, TakingKey}
+use Rattle.lazy_heap.specs.Steps.{best_of, within, Discarding, Peeking, Popping, Taking, TakingTop, TakingKey}
 use Rattle.lazy_heap.specs.Calls.{counted, Besting, PeekingBest, PoppingBest, PoppingAtMost}
 use Rattle.lazy_heap.proofs.Settling.{first_none}
 use Rattle.lazy_heap.proofs.Valid.{valid_popped, from_length}
@@ -67,7 +68,7 @@ module _ {ws ws₁ : List ℕ} {h h₁ : LazyMinHeap} {d : ℕ} {t : Option Entr
     answer = λ is. answered is.parts (e ∙ ap best_of (told is.parts) ∙ first_best from);
   }
 
-  pub popping_none : t ≡ None → PoppingBest ws h ws₁ h₁ (Ok (counted None d))
+  popping_none : t ≡ None → PoppingBest ws h ws₁ h₁ (Ok (counted None d))
   unfolding popped
   popping_none e = record {
     call = call_done ok (λ is. settled.parts is.parts) (λ is. peek_model is.parts ∙ sym (ap (λ (l : List Entry). popped_from l (model_of ws h)) (none is.parts))) (λ is. fair_popped (fair_heap is)) same_limit settled.entered.kept;
@@ -78,7 +79,7 @@ module _ {ws ws₁ : List ℕ} {h h₁ : LazyMinHeap} {d : ℕ} {t : Option Entr
       none p = first_none from (sym (told p) ∙ e)
 
   module _ {ws' : List ℕ} {h' : LazyMinHeap} {e : Entry} (take : Taking ws₁ h₁ e.key ws' h') where
-    pub popping_best : t ≡ Some e → PoppingBest ws h ws' h' (Ok (counted (Some (e.key, e.score)) d))
+    popping_best : t ≡ Some e → PoppingBest ws h ws' h' (Ok (counted (Some (e.key, e.score)) d))
     unfolding popped removed
     popping_best q = record {
       call = call_done ok (λ is. take.parts (settled.parts is.parts)) (λ is. model is.parts) (λ is. fair_popped (fair_heap is)) (take.capacity ∙ same_limit) kept;
@@ -111,7 +112,7 @@ taking {ws} {ws₁} {ws'} {h} {h₁} {k} pop out = record {
       record { size = k.size ∙ pop.entered.kept.size; past = λ j b. k.past j (rw (same_capacity pop.entered.scores) b) ∙ pop.entered.kept.past j b };
 }
 
--- ---- `pop_at_most`: as `pop_best` where the best has at most the score, as `peek_best` where it has not
+-- ---- `pop_at_most` is as `pop_best` where the best has at most the score, as `peek_best` where it has not
 module _ {ws ws' : List ℕ} {h h' : LazyMinHeap} {d : ℕ} where
   as_best : {next next' : Heap → Heap} {best best' : Heap → Option (ℕ × ℕ)} {a a' : Option (ℕ × ℕ)} → Besting ws h next best ws' h' (Ok (counted a d)) → (a ≡ best (model_of ws h) → (next (model_of ws h) ≡ next' (model_of ws h)) × (a' ≡ best' (model_of ws h)))
       → Besting ws h next' best' ws' h' (Ok (counted a' d))
@@ -131,11 +132,31 @@ module _ {ws ws' : List ℕ} {h h' : LazyMinHeap} {d : ℕ} where
       told_best is = let q = o.answer is in let same : counted a d ≡ counted (best (model_of ws h)) (stale (model_of ws h)) = cc in (ap (λ (x : Counted (Option (ℕ × ℕ))). x.answer) same, ap (λ (x : Counted (Option (ℕ × ℕ))). x.discarded) same)
 
   module _ (s : ℕ) {k v : ℕ} where
-    pub at_most_taken : PoppingBest ws h ws' h' (Ok (counted (Some (k, v)) d)) → v ≤ s → PoppingAtMost ws h s ws' h' (Ok (counted (Some (k, v)) d))
-    at_most_taken o l = as_best o (λ q. (rw (sym q, le-leb v s l), rw (sym q, le-leb v s l)))
+    at_most_taken : PoppingBest ws h ws' h' (Ok (counted (Some (k, v)) d)) → leb v s ≡ true → PoppingAtMost ws h s ws' h' (Ok (counted (Some (k, v)) d))
+    at_most_taken o l = as_best o (λ q. (rw (sym q, l), rw (sym q, l)))
 
-    pub at_most_left : PeekingBest ws h ws' h' (Ok (counted (Some (k, v)) d)) → s < v → PoppingAtMost ws h s ws' h' (Ok (counted None d))
-    at_most_left o l = as_best o (λ q. (rw (sym q, lt-leb v s l), rw (sym q, lt-leb v s l)))
+    at_most_left : PeekingBest ws h ws' h' (Ok (counted (Some (k, v)) d)) → leb v s ≡ false → PoppingAtMost ws h s ws' h' (Ok (counted None d))
+    at_most_left o l = as_best o (λ q. (rw (sym q, l), rw (sym q, l)))
 
-  pub at_most_none : (s : ℕ) → PeekingBest ws h ws' h' (Ok (counted None d)) → PoppingAtMost ws h s ws' h' (Ok (counted None d))
+  at_most_none : (s : ℕ) → PeekingBest ws h ws' h' (Ok (counted None d)) → PoppingAtMost ws h s ws' h' (Ok (counted None d))
   at_most_none s o = as_best o (λ q. (rw (sym q), rw (sym q)))
+
+-- ---- the pops
+module _ {ws ws₁ ws' : List ℕ} {h h₁ h' : LazyMinHeap} {d : ℕ} {t : Option Entry} (settled : Discarding ws h ws₁ h₁ d) (top : Peeking ws₁ h₁ t) (ok : heap_limits h.scores.capacity (length ws) ≡ Ok tt) where
+  pub popping_top : TakingTop ws₁ h₁ t ws' h' → PoppingBest ws h ws' h' (Ok (counted (best_of t) d))
+  popping_top = go t refl
+    where
+      go : (u : Option Entry) → t ≡ u → TakingTop ws₁ h₁ u ws' h' → PoppingBest ws h ws' h' (Ok (counted (best_of u) d))
+      go (Some e) q take = popping_best settled top ok take q
+      go None q same = rw (same.0, same.1) (popping_none settled top ok q)
+
+  pub popping_within : (s : ℕ) → TakingTop ws₁ h₁ (within s t) ws' h' → PoppingAtMost ws h s ws' h' (Ok (counted (best_of (within s t)) d))
+  popping_within s = go t refl
+    where
+      go : (u : Option Entry) → t ≡ u → TakingTop ws₁ h₁ (within s u) ws' h' → PoppingAtMost ws h s ws' h' (Ok (counted (best_of (within s u)) d))
+      go (Some e) q take = some (leb e.score s) refl take
+        where
+          some : (b : Bool) → leb e.score s ≡ b → TakingTop ws₁ h₁ (cond b (Some e) None) ws' h' → PoppingAtMost ws h s ws' h' (Ok (counted (best_of (cond b (Some e) None)) d))
+          some true l take = at_most_taken s (popping_best settled top ok take q) l
+          some false l same = rw (same.0, same.1) (at_most_left s (peeking_best settled top ok (sym (ap best_of q))) l)
+      go None q same = rw (same.0, same.1) (at_most_none s (peeking_best settled top ok (sym (ap best_of q))))

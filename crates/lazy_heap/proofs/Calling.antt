@@ -1,12 +1,12 @@
 -- What the calls come to: refused, or a definition's answer on a heap, and a heap again.
 use mathlib.Core.Path.{◌≡◌, refl, sym, ap, ◌∙◌, subst}
-use mathlib.Core.Bool.{Bool, true, false, true≢false, cond}
+use mathlib.Core.Bool.{Bool, true, false, cond}
 use mathlib.Core.List.{List, []}
 use Prim.Native.Nat.{ℕ, ◌+◌, ◌-◌, ◌*◌, ◌≤◌}
 use native.Mathlib.Omega.{arith}
 use lib.ListN.{length}
 use borrow.Author.Tests.{eq-eqb, ne_eqb, lt-ltb, le-ltb, le-leb}
-use Rattle.std.specs.Prelude.{Option, Result, Ok, Err, IsOk, IsErr, IsErrAnd, is_err, ⊤}
+use Rattle.std.specs.Prelude.{Option, Result, Ok, Err, IsOk, IsErr, IsErrAnd, ⊤}
 use Rattle.std.proofs.lemmas.Result.{IfOk-at_ok, err_from_is_err_and}
 use Rattle.limits.specs.Limits.{map_fits, heap_limits, heap_limits_with}
 use Rattle.rings.proofs.Counts.{by_lt}
@@ -23,7 +23,7 @@ use Rattle.linked_hash_map.specs.Calls as scores
 use Rattle.time.specs.declared.refusal.Refusal.{Refusal}
 use Rattle.lazy_heap.specs.declared.heap.LazyMinHeap.{LazyMinHeap}
 use Rattle.lazy_heap.specs.Words.{words_for, start, part, Room, Kept}
-use Rattle.lazy_heap_model.specs.Model.{Heap, at_least_one, surplus, too_many, held_score, opened, with_factor, removed, peeked, rebuilt, maybe_rebuilt, numbered, renumbered, cleared}
+use Rattle.lazy_heap_model.specs.Model.{Heap, at_least_one, too_many, held_score, opened, with_factor, removed, peeked, rebuilt, maybe_rebuilt, numbered, renumbered, cleared}
 use Rattle.lazy_heap.specs.Valid.{Valid}
 use Rattle.lazy_heap.specs.Heap.{model_of, Parts, IsHeap}
 use Rattle.lazy_heap.specs.Steps.{Rebuilding, Renumbering, Trimming, TakingKey}
@@ -46,15 +46,6 @@ room_limits {n} {l} g = rw (ne_eqb n 0 (λ q. omega (arith, g.some)), le-ltb 409
 
 pub no_heap : {ws : List ℕ} {h : LazyMinHeap} {why : Refusal} → heap_limits h.scores.capacity (length ws) ≡ Err why → IsHeap ws h → ⊥
 no_heap e is = let done = room_limits is.parts.room in cc
-
--- the same of a test
-pub ok_room : (n l : ℕ) {o : Result ⊤ Refusal} → o ≡ heap_limits n l → is_err o ≡ false → Room l n
-ok_room n l {o = Ok t} e q = limits_room n l (sym e)
-ok_room n l {o = Err why} e q = absurd (true≢false q)
-
-pub err_no_heap : {ws : List ℕ} {h : LazyMinHeap} (o : Result ⊤ Refusal) → o ≡ heap_limits h.scores.capacity (length ws) → is_err o ≡ true → IsHeap ws h → ⊥
-err_no_heap (Ok t) e q is = true≢false (sym q)
-err_no_heap (Err why) e q is = no_heap (sym e) is
 
 -- the error that a call hands on
 pub handed_on : {A : Type 0} {r : Result A Refusal} {why : Refusal} → IsErr r × IsErrAnd r (λ e. e ≡ why) → r ≡ Err why
@@ -182,11 +173,11 @@ besting_refused e = record { call = call_refused e; answer = λ is. absurd (no_h
 
 -- ---- all entries at once
 module _ {ws ws' : List ℕ} {h h' : LazyMinHeap} {d : ℕ} where
-  pub rebuild_call : heap_limits h.scores.capacity (length ws) ≡ Ok tt → Rebuilding ws h ws' h' → d ≡ h.entries - h.scores.len → RebuildingNow ws h ws' h' (Ok d)
-  rebuild_call t k d = discards_done t (λ is. k.parts is.parts) (λ is. rebuilt_model k is.parts) (λ is. fair_rebuilt (fair_heap is)) (same_capacity k.entered.scores) k.entered.kept (λ is. d ∙ sym (surplus_is ws h))
+  pub rebuild_call : heap_limits h.scores.capacity (length ws) ≡ Ok tt → Rebuilding ws h ws' h' d → RebuildingNow ws h ws' h' (Ok d)
+  rebuild_call t k = discards_done t (λ is. k.parts is.parts) (λ is. rebuilt_model k is.parts) (λ is. fair_rebuilt (fair_heap is)) (same_capacity k.entered.scores) k.entered.kept (λ is. k.discarded ∙ sym (surplus_is ws h))
 
-  pub renumber_call : heap_limits h.scores.capacity (length ws) ≡ Ok tt → Renumbering ws h ws' h' → d ≡ h.entries - h.scores.len → RenumberingNow ws h ws' h' (Ok d)
-  renumber_call t k d = discards_done t (λ is. k.parts is.parts) (λ is. k.model is.parts) (λ is. fair_renumbered (fair_heap is)) (same_capacity k.scores) k.kept (λ is. d ∙ sym (surplus_is ws h))
+  pub renumber_call : heap_limits h.scores.capacity (length ws) ≡ Ok tt → Renumbering ws h ws' h' d → RenumberingNow ws h ws' h' (Ok d)
+  renumber_call t k = discards_done t (λ is. k.parts is.parts) (λ is. k.model is.parts) (λ is. fair_renumbered (fair_heap is)) (same_capacity k.scores) k.kept (λ is. k.discarded ∙ sym (surplus_is ws h))
 
   -- rebuilding where there are too many
   pub maybe_call : (f : ℕ) → heap_limits_with h.scores.capacity (length ws) f ≡ Ok tt → Trimming ws h f ws' h' d → RebuildingMaybe ws h f ws' h' (Ok d)

@@ -1,16 +1,16 @@
 -- The check: what its walks find is what makes a heap.
-use mathlib.Core.Path.{◌≡◌, refl, sym, ◌∙◌}
-use mathlib.Core.Bool.{Bool, true, false, true≢false}
+use mathlib.Core.Path.{◌≡◌, refl, sym}
+use mathlib.Core.Bool.{Bool, true}
 use mathlib.Core.List.{List, [], ◌∷◌, Memᴰ}
 use mathlib.Core.List.Memᴰ.{cases_cons}
 use mathlib.Core.List.Memᴰ.{head}
 use mathlib.Core.List.Memᴰ.{not-nil}
 use mathlib.Core.List.Memᴰ.{tail}
 use mathlib.Core.Logic.{⊎_elim}
-use Prim.Native.Nat.{ℕ, zero, suc, ◌*◌, ◌<◌, ◌≤◌}
+use Prim.Native.Nat.{ℕ, zero, suc, ◌<◌, ◌≤◌}
 use native.Mathlib.Omega.{arith}
 use lib.ListN.{length, replicate, length-replicate, get_or-replicate, get_or-eq_default}
-use Rattle.std.specs.Prelude.{Option, None, Some}
+use Rattle.std.specs.Prelude.{Some}
 use Rattle.rings.proofs.Counts.{by_lt}
 use Rattle.binary_heap.proofs.Laws.{model_sorted}
 use Rattle.linked_hash_map.specs.declared.map.LinkedHashMap.{LinkedHashMap}
@@ -21,9 +21,7 @@ use Rattle.linked_hash_map.proofs.Laws.{place_taken, place_below, place_key, map
 use Rattle.linked_hash_map.proofs.Putting.{model_length}
 use Rattle.lazy_heap.specs.declared.heap.LazyMinHeap.{LazyMinHeap}
 use Rattle.lazy_heap.specs.Words.{part}
-use Rattle.lazy_heap.specs.Heap.{Parts, IsHeap}
-use Rattle.lazy_heap.specs.Walks.{Blank, Tallying, RecordsValid, Sound, Agreeing}
-use Rattle.lazy_heap.specs.Calls.{Checking}
+use Rattle.lazy_heap.specs.Walks.{Blank, Tallying, RecordsValid, Agreeing}
 
 -- a record of a list has a place in it, and a place a record
 mem_nth : (r : Record) (l : List Record) → Memᴰ r l → (i : ℕ) × (i < length l) × (nth i l ≡ Some r)
@@ -49,43 +47,22 @@ blank m h = record {
   zero = λ s. by_lt s 4096 (get_or-replicate 4096 s 0 0) (λ b. get_or-eq_default (replicate 4096 0) 0 {n = s} (omega (arith, length-replicate {A = ℕ} 4096 0)));
 }
 
--- ---- the parts
-module _ {ws : List ℕ} {h : LazyMinHeap} where
-  pub no_parts : (Parts ws h → h.entries ≤ 8 * h.scores.capacity → (1 ≤ h.factor) × (h.factor ≤ 8) → ⊥) → Sound ws h false
-  no_parts n = record { sound = λ q. absurd (true≢false (sym q)); complete = λ p e f. absurd (n p e f) }
-
-  -- ---- what they have to do with each other
-  pub disagreeing : {t t' : List ℕ} {r : Bool} → Tallying ws h.scores h.entries h.seq t t' r → r ≡ false → Agreeing ws h false
-  disagreeing k e = record {
-    sound = λ p q. absurd (true≢false (sym q));
-    complete = λ p v. absurd (true≢false (sym (k.complete p.entries v.below) ∙ e));
-  }
-
-  module _ {t t' : List ℕ} {u r : Bool} (k : Tallying ws h.scores h.entries h.seq t t' u) (yes : u ≡ true) (b : Blank h.scores t) (s : RecordsValid ws h.scores h.seq t' r) where
-    pub agreeing : Agreeing ws h r
-    agreeing = record {
-      sound = λ p q. record {
-        keys = map_distinct p.scores;
-        few = omega (arith, model_length ws h.scores, p.scores.count);
-        numbers = (s.sound p.scores q).0;
-        below = k.below p.entries yes;
-        once = λ x m.
-            let o = mem_nth x (map.model_of ws h.scores) m in
-            let at = place_taken ws h.scores o.0 (omega (arith, o.1, model_length ws h.scores)) in
-            omega (arith, (s.sound p.scores q).1 o.0 _ at, k.tallied p.entries p.scores b yes x m _ (place_key p.scores o.0 _ x at o.2));
-        sorted = model_sorted (part h.scores.capacity ws) h.entries;
-      };
-      complete = λ p v. s.complete p.scores v.numbers (λ i x e.
-          let o = nth_mem i (map.model_of ws h.scores) (omega (arith, place_below ws h.scores i x e, model_length ws h.scores)) in
-          omega (arith, k.tallied p.entries p.scores b yes o.0 o.2 x (place_key p.scores i x o.0 e o.1), v.once o.0 o.2));
-    }
-
-  -- ---- both
-  pub no_check : (IsHeap ws h → ⊥) → Checking ws h false
-  no_check n = record { sound = λ q. absurd (true≢false (sym q)); complete = λ is. absurd (n is) }
-
-  pub checking : {u r : Bool} → Sound ws h u → u ≡ true → Agreeing ws h r → Checking ws h r
-  checking a e v = record {
-    sound = λ q. let s = a.sound e in record { parts = s.0; valid = v.sound s.0 q; few = s.1; factor = s.2 };
-    complete = λ is. v.complete is.parts is.valid;
+-- ---- what the parts have to do with each other
+module _ {ws : List ℕ} {h : LazyMinHeap} {t t' : List ℕ} {u r : Bool} (k : Tallying ws h.scores h.entries h.seq t t' u) (yes : u ≡ true) (b : Blank h.scores t) (s : RecordsValid ws h.scores h.seq t' r) where
+  pub agreeing : Agreeing ws h r
+  agreeing = record {
+    sound = λ p q. record {
+      keys = map_distinct p.scores;
+      few = omega (arith, model_length ws h.scores, p.scores.count);
+      numbers = (s.sound p.scores q).0;
+      below = k.below p.entries yes;
+      once = λ x m.
+          let o = mem_nth x (map.model_of ws h.scores) m in
+          let at = place_taken ws h.scores o.0 (omega (arith, o.1, model_length ws h.scores)) in
+          omega (arith, (s.sound p.scores q).1 o.0 _ at, k.tallied p.entries p.scores b yes x m _ (place_key p.scores o.0 _ x at o.2));
+      sorted = model_sorted (part h.scores.capacity ws) h.entries;
+    };
+    complete = λ p v. s.complete p.scores v.numbers (λ i x e.
+        let o = nth_mem i (map.model_of ws h.scores) (omega (arith, place_below ws h.scores i x e, model_length ws h.scores)) in
+        omega (arith, k.tallied p.entries p.scores b yes o.0 o.2 x (place_key p.scores i x o.0 e o.1), v.once o.0 o.2));
   }

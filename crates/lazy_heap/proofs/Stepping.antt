@@ -29,7 +29,6 @@ use Rattle.lazy_heap_model.specs.Model.{Heap, entry_of, at_least_one, live_entri
 use Rattle.lazy_heap.specs.Heap.{held_of, entries_of, model_of, Parts}
 use Rattle.lazy_heap.specs.Steps.{replaced_score, Storing, Pushing, Rebuilding, Numbered, Renumbering, Fitting, Trimming, Holding}
 use Rattle.lazy_heap.proofs.Parts.{part_same}
-use Rattle.lazy_heap.proofs.Settling.{entered_same}
 use Rattle.lazy_heap.proofs.Refilling.{Refilling, refilling_some, Numbering, numbering_some}
 
 abbrev of : ℕ → ℕ → ℕ → List Record → List Entry → Heap
@@ -49,8 +48,8 @@ parts_emptied : {ws : List ℕ} {h : LazyMinHeap} → Parts ws h → Parts ws (e
 parts_emptied {ws} {h} p = record { room = p.room; scores = p.scores; entries = heap_none (part h.scores.capacity ws) }
 
 -- where the walk has come to its end, as it does on the parts of a heap
-pub rebuilding : {ws ws' : List ℕ} {h h' : LazyMinHeap} {left : ℕ} {at : Result (Option ℕ) Unfit} → Refilling ws (emptied h) ws' h' left at → (Parts ws h → left ≡ 0) → Rebuilding ws h ws' h'
-rebuilding {ws} {h = h} f none = record {
+pub rebuilding : {ws ws' : List ℕ} {h h' : LazyMinHeap} {left d : ℕ} {at : Result (Option ℕ) Unfit} → Refilling ws (emptied h) ws' h' left at → d ≡ h.entries - h.scores.len → (Parts ws h → left ≡ 0) → Rebuilding ws h ws' h' d
+rebuilding {ws} {h = h} f discarded none = record {
   entered = record {
     scores = f.entered.scores;
     seq = f.entered.seq;
@@ -62,11 +61,12 @@ rebuilding {ws} {h = h} f none = record {
   count = λ p. omega (arith, f.count (parts_emptied p), none p);
   parts = λ p. f.parts (parts_emptied p);
   entries = λ p. f.filled (parts_emptied p) ∙ ap (λ (i : ℕ). sort (map entry_of (drop i (held_of ws h)))) (none p);
+  discarded = discarded;
 }
 
 -- where it finds no slot, which it does on no parts
-pub rebuilding_lost : {ws ws' : List ℕ} {h h' : LazyMinHeap} {left : ℕ} {at : Result (Option ℕ) Unfit} → Refilling ws (emptied h) ws' h' left at → 0 < left → ((s : ℕ) → at ≡ Ok (Some s) → ⊥) → Rebuilding ws h ws' h'
-rebuilding_lost f more none = rebuilding f (λ p. absurd (refilling_some f more none (parts_emptied p)))
+pub rebuilding_lost : {ws ws' : List ℕ} {h h' : LazyMinHeap} {left d : ℕ} {at : Result (Option ℕ) Unfit} → Refilling ws (emptied h) ws' h' left at → d ≡ h.entries - h.scores.len → 0 < left → ((s : ℕ) → at ≡ Ok (Some s) → ⊥) → Rebuilding ws h ws' h' d
+rebuilding_lost f discarded more none = rebuilding f discarded (λ p. absurd (refilling_some f more none (parts_emptied p)))
 
 -- ---- renumbering
 pub numbering : {ws ws' : List ℕ} {m : LinkedHashMap} {number left : ℕ} {at : Result (Option ℕ) Unfit} → Numbering ws m ws' number left at → (map.IsMap ws m → left ≡ 0) → Numbered ws m ws'
@@ -92,7 +92,7 @@ parts_numbered {ws} {ws'} {h} n p =
       entries = rw (part_same ws ws' (start n') (words_for n' - start n') n.size (λ j a b. n.past j a)) p.entries;
     }
 
-pub renumbering : {ws ws₁ ws' : List ℕ} {h h' : LazyMinHeap} → Numbered ws h.scores ws₁ → Rebuilding ws₁ (numbered_heap h) ws' h' → Renumbering ws h ws' h'
+pub renumbering : {ws ws₁ ws' : List ℕ} {h h' : LazyMinHeap} {d : ℕ} → Numbered ws h.scores ws₁ → Rebuilding ws₁ (numbered_heap h) ws' h' d → Renumbering ws h ws' h' d
 unfolding renumbered
 renumbering {ws} {ws₁} {ws'} {h} {h'} n b = record {
   scores = b.entered.scores;
@@ -105,13 +105,14 @@ renumbering {ws} {ws₁} {ws'} {h} {h'} n b = record {
       let d : held_of ws' h' ≡ numbered (held_of ws h) = b.entered.held q ∙ n.held p.scores in
       let e : entries_of ws' h' ≡ live_entries (numbered (held_of ws h)) = b.entries q ∙ ap live_entries (n.held p.scores) in
       same_heap a b.entered.factor c d e;
+  discarded = b.discarded;
   kept = record {
     size = b.entered.kept.size ∙ n.size;
     past = λ j g. b.entered.kept.past j g ∙ n.past j (omega arith);
   };
 }
 
-pub rebuilt_model : {ws ws' : List ℕ} {h r : LazyMinHeap} → Rebuilding ws h ws' r → Parts ws h → model_of ws' r ≡ rebuilt (model_of ws h)
+pub rebuilt_model : {ws ws' : List ℕ} {h r : LazyMinHeap} {d : ℕ} → Rebuilding ws h ws' r d → Parts ws h → model_of ws' r ≡ rebuilt (model_of ws h)
 unfolding rebuilt
 rebuilt_model k p = same_heap (same_capacity k.entered.scores) k.entered.factor k.entered.seq (k.entered.held p) (k.entries p)
 
@@ -126,9 +127,9 @@ pub kept_same : (n : ℕ) (ws : List ℕ) → Kept n ws ws
 kept_same n ws = record { size = refl; past = λ j g. refl }
 
 module _ {ws : List ℕ} {h : LazyMinHeap} (word : h.seq < 2 ^ 64) where
-  pub fitting_renumbered : {ws' : List ℕ} {h' : LazyMinHeap} {d : ℕ} → 2 ^ 64 - 1 ≤ h.seq → Renumbering ws h ws' h' → d ≡ h.entries - h.scores.len → Fitting ws h ws' h' d
+  pub fitting_renumbered : {ws' : List ℕ} {h' : LazyMinHeap} {d : ℕ} → 2 ^ 64 - 1 ≤ h.seq → Renumbering ws h ws' h' d → Fitting ws h ws' h' d
   unfolding before_push
-  fitting_renumbered last n d =
+  fitting_renumbered last n =
       let e : h.seq ≡ 2 ^ 64 - 1 = omega arith in record {
         word = word;
         same = λ more. absurd (omega arith);
@@ -136,8 +137,8 @@ module _ {ws : List ℕ} {h : LazyMinHeap} (word : h.seq < 2 ^ 64) where
         factor = n.factor;
         parts = n.parts;
         model = λ p. n.model p ∙ sym (rw (eq-eqb h.seq (2 ^ 64 - 1) e));
-        discarded = λ p. d ∙ sym (rw (eq-eqb h.seq (2 ^ 64 - 1) e) (surplus_is ws h));
-        small = omega arith;
+        discarded = λ p. n.discarded ∙ sym (rw (eq-eqb h.seq (2 ^ 64 - 1) e) (surplus_is ws h));
+        small = omega (arith, n.discarded);
         kept = n.kept;
       }
 
@@ -162,14 +163,14 @@ module _ (ws : List ℕ) (h : LazyMinHeap) (f : ℕ) {b : Bool} (c : ltb (at_lea
       ∙ ap (λ (n : ℕ). ltb (at_least_one f * h.scores.len) n) (array-length (part h.scores.capacity ws) h.entries)
       ∙ c
 
-  pub trimming_rebuilt : {ws' : List ℕ} {h' : LazyMinHeap} {d : ℕ} → b ≡ true → Rebuilding ws h ws' h' → d ≡ h.entries - h.scores.len → Trimming ws h f ws' h' d
+  pub trimming_rebuilt : {ws' : List ℕ} {h' : LazyMinHeap} {d : ℕ} → b ≡ true → Rebuilding ws h ws' h' d → Trimming ws h f ws' h' d
   unfolding maybe_rebuilt
-  trimming_rebuilt t k d = record {
+  trimming_rebuilt t k = record {
     scores = k.entered.scores;
     parts = k.parts;
     model = λ p. rebuilt_model k p ∙ sym (ap (λ (u : Bool). cond u (rebuilt (model_of ws h)) (model_of ws h)) (crowded ∙ t));
-    discarded = λ p. d ∙ sym (surplus_is ws h) ∙ sym (ap (λ (u : Bool). cond u (surplus (model_of ws h)) 0) (crowded ∙ t));
-    small = omega arith;
+    discarded = λ p. k.discarded ∙ sym (surplus_is ws h) ∙ sym (ap (λ (u : Bool). cond u (surplus (model_of ws h)) 0) (crowded ∙ t));
+    small = omega (arith, k.discarded);
     kept = k.entered.kept;
   }
 

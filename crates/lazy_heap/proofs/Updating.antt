@@ -9,8 +9,7 @@ use native.Mathlib.Nat.{mul-le-mul}
 use lib.Dec.{eqb, leb}
 use lib.ListN.{length}
 use borrow.Author.Tests.{lt-ltb, le-leb, eqb-false}
-use Rattle.std.specs.Prelude.{Option, None, Some, Ok, Err, min}
-use Rattle.limits.specs.Limits.{heap_limits}
+use Rattle.std.specs.Prelude.{Option, Some, Ok, Err, min}
 use Rattle.cells.specs.declared.Probe.{Probe}
 use Rattle.cells.specs.declared.Probe.TheVariants.{At, Free, Full}
 use Rattle.rings.proofs.Counts.{by_lt}
@@ -22,19 +21,18 @@ use Rattle.linked_hash_map.specs.Calls.{place_of}
 use Rattle.linked_hash_map.proofs.Probed.{free_not_at, hit, miss, ends}
 use Rattle.linked_hash_map.proofs.Places.{full_no_map}
 use Rattle.linked_hash_map.proofs.Putting.{model_length}
-use Rattle.time.specs.declared.refusal.Refusal.{Refusal}
 use Rattle.time.specs.declared.refusal.Refusal.TheVariants.{KeyLimitReached}
 use Rattle.lazy_heap.specs.declared.heap.LazyMinHeap.{LazyMinHeap}
 use Rattle.lazy_heap.specs.Words.{part, Room}
 use Rattle.lazy_heap_model.specs.Model.{Heap, entry_of, at_least_one, surplus, too_many, numbered, held_score, is_full, before_push, renumbered, pushed, rebuilt, maybe_rebuilt, updated, update_discards}
 use Rattle.lazy_heap.specs.Valid.{Valid}
-use Rattle.lazy_heap.specs.Heap.{held_of, entries_of, model_of, Parts, IsHeap}
+use Rattle.lazy_heap.specs.Heap.{entries_of, model_of, Parts, IsHeap}
 use Rattle.lazy_heap.specs.Steps.{is_over, Fitting, Holding, Trimming}
 use Rattle.lazy_heap.specs.Calls.{counted, Updating}
 use Rattle.lazy_heap.proofs.Helds.{length_without_le}
 use Rattle.lazy_heap.proofs.Valid.{valid_rebuilt, valid_pushed, live_length, numbered_length, numbered_has}
 use Rattle.lazy_heap.proofs.Stepping.{same_capacity, kept_same}
-use Rattle.lazy_heap.proofs.Calling.{no_heap, room_limits, Fair, fair_heap, fair_renumbered, heap_again}
+use Rattle.lazy_heap.proofs.Calling.{room_limits, Fair, fair_heap, fair_renumbered, heap_again}
 
 -- ---- as many keys held as the limit allows
 module _ (k : ℕ) (m : Heap) where
@@ -221,17 +219,6 @@ module _ {ws ws₁ ws₂ ws' : List ℕ} {h h₁ h₂ h' : LazyMinHeap} {k s a c
   }
 
 -- refused: nothing changes
-pub updating_refused : {ws : List ℕ} {h : LazyMinHeap} {k s : ℕ} {why : Refusal} → heap_limits h.scores.capacity (length ws) ≡ Err why → Updating ws h k s ws h (Err why)
-updating_refused {ws} {h} e = record {
-  outcome = inl (sym e);
-  refused = λ w q. (refl, refl);
-  answer = λ is. absurd (no_heap e is);
-  heap = λ is. is;
-  model = λ is. absurd (no_heap e is);
-  capacity = refl;
-  kept = kept_same h.scores.capacity ws;
-}
-
 pub updating_full : {ws : List ℕ} {h : LazyMinHeap} {k s : ℕ} → (Parts ws h → is_full k (model_of ws h) ≡ true) → Room (length ws) h.scores.capacity → Updating ws h k s ws h (Err KeyLimitReached)
 updating_full {ws} {h} full ok = record {
   outcome = inr (room_limits ok, refl);

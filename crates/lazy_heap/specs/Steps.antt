@@ -12,8 +12,7 @@ use Rattle.linked_hash_map.specs.declared.map.PutError.{PutError}
 use Rattle.linked_hash_map.specs.Model.{lookup}
 use Rattle.linked_hash_map.specs.Map.{slot_at}
 use Rattle.linked_hash_map.specs.Map as map
-use Rattle.linked_hash_map.specs.Numbers.{shrunk_map}
-use Rattle.linked_hash_map.specs.Calls.{Putting, Removing, unfit}
+use Rattle.linked_hash_map.specs.Calls.{Putting, Removing}
 use Rattle.lazy_heap.specs.declared.heap.LazyMinHeap.{LazyMinHeap}
 use Rattle.lazy_heap.specs.Words.{start, Kept}
 use Rattle.lazy_heap_model.specs.Model.{live, stale_before, from_live, surplus, live_entries, numbered, renumbered, too_many, is_full, before_push, maybe_rebuilt, pushed, removed, held_score}
@@ -42,12 +41,17 @@ pub record Popping (ws : List ℕ) (h : LazyMinHeap) (ws' : List ℕ) (h' : Lazy
   pub parts : Parts ws h → Parts ws' h'
   pub entries : Parts ws h → entries_of ws' h' ≡ rest (entries_of ws h)
 
--- `take_top`
+-- the first entry gone, and a key
 pub record Taking (ws : List ℕ) (h : LazyMinHeap) (k : ℕ) (ws' : List ℕ) (h' : LazyMinHeap) : Type 0 where
   pub capacity : h'.scores.capacity ≡ h.scores.capacity
   pub parts : Parts ws h → Parts ws' h'
   pub model : Parts ws h → model_of ws' h' ≡ removed k (record { limit = h.scores.capacity; factor = h.factor; next = h.seq; held = held_of ws h; entries = rest (entries_of ws h) })
   pub kept : Kept h.scores.capacity ws ws'
+
+-- `take_top`
+abbrev pub TakingTop : List ℕ → LazyMinHeap → Option Entry → List ℕ → LazyMinHeap → Type 0
+TakingTop ws h (Some e) ws' h' = Taking ws h e.key ws' h'
+TakingTop ws h None ws' h' = (h' ≡ h) × (ws' ≡ ws)
 
 -- `top`
 pub record Peeking (ws : List ℕ) (h : LazyMinHeap) (r : Option Entry) : Type 0 where
@@ -81,6 +85,11 @@ abbrev pub best_of : Option Entry → Option (ℕ × ℕ)
 best_of (Some e) = Some (e.key, e.score)
 best_of None = None
 
+-- an entry whose score is at most this one
+abbrev pub within : ℕ → Option Entry → Option Entry
+within s (Some e) = cond (leb e.score s) (Some e) None
+within s None = None
+
 -- the score in what `put` replaced
 abbrev pub replaced_score : Result (Option Record) PutError → Option ℕ
 replaced_score (Ok (Some r)) = Some r.first
@@ -100,14 +109,15 @@ pub record TakingKey (ws : List ℕ) (m : LinkedHashMap) (k : ℕ) (ws' : List �
   pub numbers : m' ≡ record { capacity = m.capacity; len = m'.len; refill_in = m.refill_in }
   pub answer : r ≡ held_score gone
 
--- `rebuild_within`
-pub record Rebuilding (ws : List ℕ) (h : LazyMinHeap) (ws' : List ℕ) (h' : LazyMinHeap) : Type 0 where
+-- `rebuild_within`: the live entries alone, and how many there were more
+pub record Rebuilding (ws : List ℕ) (h : LazyMinHeap) (ws' : List ℕ) (h' : LazyMinHeap) (d : ℕ) : Type 0 where
   pub entered : Entered ws h ws' h'
   pub count : Parts ws h → h'.entries ≡ h.scores.len
   pub parts : Parts ws h → Parts ws' h'
   pub entries : Parts ws h → entries_of ws' h' ≡ live_entries (held_of ws h)
+  pub discarded : d ≡ h.entries - h.scores.len
 
--- `number_within`: numbers from 0, on the scores alone
+-- `number`: numbers from 0, on the scores alone
 pub record Numbered (ws : List ℕ) (m : LinkedHashMap) (ws' : List ℕ) : Type 0 where
   pub scores : map.IsMap ws m → map.IsMap ws' m
   pub held : map.IsMap ws m → map.model_of ws' m ≡ numbered (map.model_of ws m)
@@ -115,11 +125,12 @@ pub record Numbered (ws : List ℕ) (m : LinkedHashMap) (ws' : List ℕ) : Type 
   pub past : (j : ℕ) → start m.capacity ≤ j → get_or ws' j 0 ≡ get_or ws j 0
 
 -- `renumber_within`
-pub record Renumbering (ws : List ℕ) (h : LazyMinHeap) (ws' : List ℕ) (h' : LazyMinHeap) : Type 0 where
+pub record Renumbering (ws : List ℕ) (h : LazyMinHeap) (ws' : List ℕ) (h' : LazyMinHeap) (d : ℕ) : Type 0 where
   pub scores : h'.scores ≡ h.scores
   pub factor : h'.factor ≡ h.factor
   pub parts : Parts ws h → Parts ws' h'
   pub model : Parts ws h → model_of ws' h' ≡ renumbered (model_of ws h)
+  pub discarded : d ≡ h.entries - h.scores.len
   pub kept : Kept h.scores.capacity ws ws'
 
 -- `fit_number`

@@ -1,10 +1,12 @@
 // The heap's calls. A public call tests the limits, and its private steps may count on them.
+#![tactic(auto, using(crate::proofs::Calling::no_heap, crate::proofs::Calling::limits_room))]
+
 ghost use Rattle.std.specs.Prelude.{◌≡◌, ◌-◌, ◌^◌, ◌*◌, ◌<◌, length, ltb};
 ghost use Rattle.linked_hash_map.specs.Calls.{place_of};
 ghost use Rattle.lazy_heap.specs.Words.{Room};
 ghost use Rattle.lazy_heap_model.specs.Model.{at_least_one, factor_of, len, heap_len, at_most};
 ghost use Rattle.lazy_heap.specs.Calls.{Opening, Resetting, Asking, is_empty, score_of, Removing, PeekingBest, PoppingBest, PoppingAtMost, RebuildingNow, RebuildingMaybe, RenumberingNow, Clearing, Updating, Checking};
-ghost use Rattle.lazy_heap.specs.Steps.{best_of, is_over, Storing, TakingKey, Living, Pushing, Popping, Peeking, CountingEntries, Taking, Settled, Discarding, Rebuilding, Numbered, Renumbering, Fitting, Trimming, Holding};
+ghost use Rattle.lazy_heap.specs.Steps.{best_of, within, is_over, Storing, TakingKey, Living, Pushing, Popping, Peeking, CountingEntries, TakingTop, Settled, Discarding, Rebuilding, Renumbering, Fitting, Trimming, Holding};
 ghost use Rattle.lazy_heap.specs.Walks.{CountingWithin, Sound, Agreeing};
 
 use crate::{layout, walks};
@@ -79,6 +81,13 @@ fn best_of(top: Option<Entry>) -> Option<(u64, u64)>
     ensures { result ≡ best_of top }
 {
     top.map(|e| (e.key, e.score))
+}
+
+// The entry, if its score is at most this one.
+fn within(top: Option<Entry>, score: u64) -> Option<Entry>
+    ensures { result ≡ within score top }
+{
+    top.filter(|e| e.score <= score)
 }
 
 impl LazyMinHeap {
@@ -201,19 +210,12 @@ impl LazyMinHeap {
     {
         limits::heap(self.scores.capacity, words.len())?;
         let discarded = self.settle(words);
-        match self.top(words) {
-            Some(e) => {
-                self.take_top(words, e.key);
-                Ok(Counted {
-                    answer: Some((e.key, e.score)),
-                    discarded,
-                })
-            }
-            None => Ok(Counted {
-                answer: None,
-                discarded,
-            }),
-        }
+        let best = self.top(words);
+        self.take_top(words, best);
+        Ok(Counted {
+            answer: best_of(best),
+            discarded,
+        })
     }
 
     // The same, where that key's score is at most this one. Else it answers that there is none, and the key stays.
@@ -226,19 +228,12 @@ impl LazyMinHeap {
     {
         limits::heap(self.scores.capacity, words.len())?;
         let discarded = self.settle(words);
-        match self.top(words) {
-            Some(e) if e.score <= score => {
-                self.take_top(words, e.key);
-                Ok(Counted {
-                    answer: Some((e.key, e.score)),
-                    discarded,
-                })
-            }
-            _ => Ok(Counted {
-                answer: None,
-                discarded,
-            }),
-        }
+        let best = within(self.top(words), score);
+        self.take_top(words, best);
+        Ok(Counted {
+            answer: best_of(best),
+            discarded,
+        })
     }
 
     // ---- all entries at once: these answer how many they discarded
@@ -247,9 +242,7 @@ impl LazyMinHeap {
         ensures { RebuildingNow words.old self.old words.new self.new result }
     {
         limits::heap(self.scores.capacity, words.len())?;
-        let discarded = self.surplus();
-        self.rebuild_within(words);
-        Ok(discarded)
+        Ok(self.rebuild_within(words))
     }
 
     // Rebuilds if there are more entries than factor times the keys held.
@@ -264,9 +257,7 @@ impl LazyMinHeap {
         ensures { RenumberingNow words.old self.old words.new self.new result }
     {
         limits::heap(self.scores.capacity, words.len())?;
-        let discarded = self.surplus();
-        self.renumber_within(words);
-        Ok(discarded)
+        Ok(self.renumber_within(words))
     }
 
     // The next number stays.
@@ -286,10 +277,9 @@ impl LazyMinHeap {
     pub fn check(self, words: &[u64]) -> bool
         ensures { Checking words.now self result }
     {
-        if limits::heap(self.scores.capacity, words.len()).is_err() {
-            return false;
-        }
-        self.is_sound(words) && self.is_valid(words)
+        limits::heap(self.scores.capacity, words.len()).is_ok()
+            && self.is_sound(words)
+            && self.is_valid(words)
     }
 
     // The numbers are within their limits, and the words hold a map of scores and a binary heap of entries.
@@ -297,10 +287,9 @@ impl LazyMinHeap {
         requires { Room (length words.now) self.scores.capacity }
         ensures { Sound words.now self result }
     {
-        if self.factor == 0 || 8 < self.factor || 8 * self.scores.capacity < self.entries {
-            return false;
-        }
-        self.scores.check(words)
+        (1..=8).contains(&self.factor)
+            && self.entries <= 8 * self.scores.capacity
+            && self.scores.check(words)
             && binary_heap::is_heap(&words[layout::entries(self.scores.capacity)], self.entries)
     }
 
@@ -420,17 +409,19 @@ impl LazyMinHeap {
     }
 
     // The live entries alone, pushed in sequence order: the walk is from the earliest set to the latest. It has a turn for
-    // each key held, and no more than the limit has, which numbers that are no heap's may pass.
-    fn rebuild_within(&mut self, words: &mut [u64])
+    // each key held, and no more than the limit has, which numbers that are no heap's may pass. It answers
+    // how many entries there were more.
+    fn rebuild_within(&mut self, words: &mut [u64]) -> usize
         requires { Room (length words.old) self.old.scores.capacity }
-        ensures { Rebuilding words.old self.old words.new self.new }
+        ensures { Rebuilding words.old self.old words.new self.new result }
     {
+        let discarded = self.surplus();
         let scores = self.scores;
         self.entries = 0;
         let mut at = scores.last(words);
         for _ in 0..scores.len.min(scores.capacity) {
             let Ok(Some(s)) = at else {
-                return;
+                return discarded;
             };
             let r = scores.record(words, s);
             self.push(
@@ -443,36 +434,17 @@ impl LazyMinHeap {
             );
             at = scores.previous(words, s);
         }
+        discarded
     }
 
-    // Numbers from 0 in the old sequence order, by the same walk.
-    fn number_within(scores: LinkedHashMap, words: &mut [u64])
-        ensures { Numbered words.old scores words.new }
-    {
-        let mut at = scores.last(words);
-        for number in 0..scores.len.min(scores.capacity) {
-            let Ok(Some(s)) = at else {
-                return;
-            };
-            let r = scores.record(words, s);
-            scores.set_payload(
-                words,
-                Record {
-                    second: number as u64,
-                    ..r
-                },
-            );
-            at = scores.previous(words, s);
-        }
-    }
-
-    fn renumber_within(&mut self, words: &mut [u64])
+    // The same, after numbers from 0 in the old sequence order.
+    fn renumber_within(&mut self, words: &mut [u64]) -> usize
         requires { Room (length words.old) self.old.scores.capacity }
-        ensures { Renumbering words.old self.old words.new self.new }
+        ensures { Renumbering words.old self.old words.new self.new result }
     {
-        LazyMinHeap::number_within(self.scores, words);
+        walks::number(words, self.scores);
         self.seq = self.scores.len as u64;
-        self.rebuild_within(words);
+        self.rebuild_within(words)
     }
 
     // Renumbers where the next number is the last, and answers how many entries it discarded.
@@ -483,9 +455,7 @@ impl LazyMinHeap {
         if self.seq < u64::MAX {
             return 0;
         }
-        let discarded = self.surplus();
-        self.renumber_within(words);
-        discarded
+        self.renumber_within(words)
     }
 
     // Rebuilds where there are too many entries, and answers how many it discarded.
@@ -496,9 +466,7 @@ impl LazyMinHeap {
         if !too_many(factor, self.entries, self.scores.len) {
             return 0;
         }
-        let discarded = self.surplus();
-        self.rebuild_within(words);
-        discarded
+        self.rebuild_within(words)
     }
 
     // ---- setting a score
@@ -561,12 +529,14 @@ impl LazyMinHeap {
         })
     }
 
-    // Takes the first entry out, and a key.
-    fn take_top(&mut self, words: &mut [u64], key: u64)
+    // Takes the first entry out, and its key; nothing where none is given.
+    fn take_top(&mut self, words: &mut [u64], top: Option<Entry>)
         requires { Room (length words.old) self.old.scores.capacity }
-        ensures { Taking words.old self.old key words.new self.new }
+        ensures { TakingTop words.old self.old top words.new self.new }
     {
-        self.pop(words);
-        take_key(&mut self.scores, words, key);
+        if let Some(e) = top {
+            self.pop(words);
+            take_key(&mut self.scores, words, e.key);
+        }
     }
 }

@@ -2,11 +2,12 @@
 // which numbers that are no map's may pass.
 ghost use Rattle.std.specs.Prelude.{◌≡◌, length, get_or};
 ghost use Rattle.lazy_heap.specs.Words.{Room};
+ghost use Rattle.lazy_heap.specs.Steps.{Numbered};
 ghost use Rattle.lazy_heap.specs.Walks.{seen, CountingAtMost, LivingAt, Tallying, RecordsValid};
 
 use crate::layout;
 use binary_heap::Entry;
-use linked_hash_map::LinkedHashMap;
+use linked_hash_map::{LinkedHashMap, Record};
 
 // The slot of the key whose live entry this is.
 pub fn live_slot(words: &[u64], scores: LinkedHashMap, entry: Entry) -> Option<usize>
@@ -36,6 +37,27 @@ pub fn count_at_most(words: &[u64], scores: LinkedHashMap, score: u64) -> usize
         at = scores.next(words, s);
     }
     n
+}
+
+// Numbers the keys from 0, the earliest set first.
+pub fn number(words: &mut [u64], scores: LinkedHashMap)
+    ensures { Numbered words.old scores words.new }
+{
+    let mut at = scores.last(words);
+    for number in 0..scores.len.min(scores.capacity) {
+        let Ok(Some(s)) = at else {
+            return;
+        };
+        let r = scores.record(words, s);
+        scores.set_payload(
+            words,
+            Record {
+                second: number as u64,
+                ..r
+            },
+        );
+        at = scores.previous(words, s);
+    }
 }
 
 // ---- the check

@@ -78,3 +78,5 @@ drain_then {ws} {ws'} {ws''} {m} {m'} {m''} {k} j a b e = record {
   left = λ is. omega (arith, b.left (a.map is), a.left is, model_length ws' m');
   kept = kept_then a.kept (rw a.capacity at b.kept);
 }
+
+pub ruleset drains = (drain_first, drain_none, drain_found, drain_lost)

@@ -13,5 +13,6 @@ pub mod Walking
 pub mod Opening
 pub mod Checking
 pub mod Steps
+pub mod Passing
 pub mod Laws
 pub mod Draining

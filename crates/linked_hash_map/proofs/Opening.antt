@@ -14,7 +14,7 @@ use Rattle.linked_hash_map.specs.Model.{Model}
 use Rattle.linked_hash_map.specs.Map.{IsMap, model_of}
 use Rattle.linked_hash_map.specs.Calls.{unfit, Opening, Clearing, Draining}
 use Rattle.linked_hash_map.proofs.Limits.{is_room}
-use Rattle.linked_hash_map.proofs.Probed.{misfit}
+use Rattle.linked_hash_map.proofs.Probed.{misfit, err_unfit}
 use Rattle.linked_hash_map.proofs.Laid.{of_map, to_map, live_is}
 use Rattle.linked_hash_map.proofs.Refill.{laid_emptied, laid_wiped}
 use Rattle.linked_hash_map.proofs.Keeping.{kept_same, kept_emptied, kept_wiped}
@@ -88,3 +88,7 @@ module _ (ws : List ℕ) (m : LinkedHashMap) where
     model = λ is. absurd (misfit e is);
     kept = kept_same m.capacity ws;
   }
+
+pub ruleset openings = (opening, opening_refused, err_unfit)
+
+pub ruleset clearings = (clearing_refused, clearing_drained, clearing_wiped, err_unfit)

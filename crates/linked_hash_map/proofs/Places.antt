@@ -12,7 +12,6 @@ use Rattle.rings.proofs.Counts.{by_lt}
 use Rattle.cells.specs.declared.Probe.{Probe}
 use Rattle.cells.specs.declared.Probe.TheVariants as probed
 use Rattle.cells.specs.Cells.{cell_count}
-use Rattle.cells.specs.Probe.{probe}
 use Rattle.cells.proofs.Probing.{at_found, free_vacant}
 use Rattle.cells.proofs.Indexing.{never_full}
 use Rattle.linked_hash_map.specs.declared.map.LinkedHashMap.{LinkedHashMap}
@@ -22,19 +21,10 @@ use Rattle.linked_hash_map.specs.declared.map.PutError.TheVariants as failed
 use Rattle.linked_hash_map.specs.Words.{record_at, replaced, taken_out, put_in}
 use Rattle.linked_hash_map.specs.Numbers.{len_after, longer_map, shrunk_map, Inserting}
 use Rattle.linked_hash_map.specs.Map.{IsMap}
-use Rattle.linked_hash_map.specs.Calls.{unfit, zeros, place_of, ReplacingAt, InsertingAt, TakingAt, Putting, Removing}
+use Rattle.linked_hash_map.specs.Calls.{zeros, place_of, ReplacingAt, InsertingAt, TakingAt, Putting, Removing}
 use Rattle.linked_hash_map.proofs.Keeping.{kept_same, kept_then, kept_replaced, kept_taken, kept_put}
 use Rattle.linked_hash_map.proofs.Probed.{misfit, ends, ends_not}
 use Rattle.linked_hash_map.proofs.Putting.{removing_refused, removing_none, removing_at, putting_refused, putting_crowded, putting_at, putting_full, putting_free, inserted_numbers, grown_kept}
-
-module _ (ws : List ℕ) (m : LinkedHashMap) (k : ℕ) where
-  pub place_refused : map_fits m.capacity (length ws) ≡ false → unfit ≡ place_of ws m k
-  unfolding place_of
-  place_refused f = rw f refl
-
-  pub place_probed : {r : Probe} → map_fits m.capacity (length ws) ≡ true → probe ws m.capacity k ≡ r → Ok r ≡ place_of ws m k
-  unfolding place_of
-  place_probed f e = rw (f, e) refl
 
 -- a map has a place for every key
 pub full_no_map : {ws : List ℕ} {m : LinkedHashMap} (k : ℕ) → place_of ws m k ≡ Ok probed.Full → IsMap ws m → ⊥
@@ -128,3 +118,7 @@ module _ (ws : List ℕ) (m : LinkedHashMap) (c s : ℕ) where
 
   pub taking_beyond : cell_count m.capacity ≤ c → TakingAt ws m c s ws m 0
   taking_beyond h = taking_none (λ k e. omega (arith, (at_found _ _ _ _ _ (ends ws m k e).at).cell))
+
+pub ruleset takings = (taking_unfit, taking_past, taking_beyond, taking_at)
+
+pub ruleset puttings = (put_over, put_full, put_refused)

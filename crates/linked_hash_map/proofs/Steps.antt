@@ -13,7 +13,9 @@ use Rattle.std.specs.Prelude.{Some, None}
 use Rattle.std.specs.Bool.{then_some}
 use Rattle.rings.specs.Ring.{next, attached}
 use Rattle.cells.specs.Cells.{weight, zeroed}
-use Rattle.cells.proofs.Packing.{put_lt}
+use Rattle.cells.proofs.Packing.{digit_le, put_lt}
+use Rattle.cells.proofs.Held.{count_none, count_one, count_free, count_tomb}
+use Rattle.rings.proofs.Walks.{walks_on, walks_past, walks_one_way, walks_end}
 use Rattle.cells.specs.declared.Probe.{Probe}
 use Rattle.cells.specs.declared.Probe.TheVariants as probed
 use Rattle.cells.specs.Probe.{taken_by, entered}
@@ -105,3 +107,16 @@ module _ (ws : List ℕ) (n : ℕ) where
     pub finds_on : (g : ℕ) → k ≡ suc g → x < n → finds_of ws n x ≡ true → finds_all ws n k x ≡ finds_all ws n g (next ws x)
     unfolding finds_all
     finds_on g e l q = rw (e, lt-ltb x n l, q)
+
+-- the steps of each loop, and its end
+pub ruleset filling = (filled_on, filled_end)
+
+pub ruleset entering = (entered_on, entered_past, entered_end)
+
+pub ruleset finding = (finds_on, finds_past, finds_lost, finds_end)
+
+pub ruleset walking = (walks_on, walks_past, walks_one_way, walks_end)
+
+pub ruleset counting = (count_none, count_one, count_free, count_tomb)
+
+pub ruleset fitting = (digit_le, put_lt, digit_fits)

@@ -10,7 +10,7 @@ use crate::index;
 use cells::Probe;
 
 // From node s by the next links come k records, each linked both ways, and then s again.
-#[tactic(auto, using(rings::proofs::Walks::walks_on, rings::proofs::Walks::walks_past, rings::proofs::Walks::walks_end, rings::proofs::Walks::walks_one_way))]
+#[tactic(auto, using(crate::proofs::Steps::walking))]
 pub fn walks(words: &[u64], n: usize, s: usize, k: usize) -> bool
     requires { Room (length words.now) n × (s < n + 2) }
     ensures { result ≡ walksOf words.now n s s k }
@@ -31,7 +31,7 @@ pub fn walks(words: &[u64], n: usize, s: usize, k: usize) -> bool
 }
 
 // The probe of each live record's key ends at that record.
-#[tactic(auto, using(crate::proofs::Steps::finds_on, crate::proofs::Steps::finds_past, crate::proofs::Steps::finds_end, crate::proofs::Steps::finds_lost))]
+#[tactic(auto, using(crate::proofs::Steps::finding))]
 pub fn finds_all(words: &[u64], n: usize, len: usize) -> bool
     requires { Room (length words.now) n }
     ensures { result ≡ finds_all words.now n len (next words.now n) }
@@ -62,7 +62,7 @@ fn finds(words: &[u64], n: usize, slot: usize) -> bool
 }
 
 // How many cells hold a record.
-#[tactic(auto, using(cells::proofs::Held::count_none, cells::proofs::Held::count_one, cells::proofs::Held::count_free, cells::proofs::Held::count_tomb))]
+#[tactic(auto, using(crate::proofs::Steps::counting))]
 pub fn held(words: &[u64], n: usize) -> usize
     requires { Room (length words.now) n }
     ensures { result ≡ length (held_in words.now n (cell_count n)) }

@@ -1,4 +1,5 @@
-// The hash cells.
+// The hash cells. The words and n go side by side: a struct that held both would have `Room` for its invariant, but each function
+// that writes would then ensure that the reference and n stay, two clauses in the place of one.
 ghost use Rattle.std.specs.Prelude.{◌≡◌, ◌+◌, ◌*◌, ◌<◌, ◌≤◌, length};
 ghost use Rattle.cells.specs.Cells.{cells_from, cell_words, cell_count, weight, cell_at, set_cell, cell_after, home_of, erased, zeroed};
 ghost use Rattle.cells.specs.Probe.{entered};
@@ -7,6 +8,7 @@ ghost use Rattle.linked_hash_map.specs.Words.{Room};
 
 use cells::Probe;
 
+// Of a record that is gone. A cell is a number of 16 bits, since it stands in the words that are lent.
 const TOMBSTONE: u64 = 65535;
 
 // The cell at which a key's probes start: its hash scaled to the number of cells, with no division.
@@ -50,7 +52,7 @@ fn weight_of(p: usize) -> u64
 }
 
 // Writes v into cell p.
-#[tactic(auto, unfolding(cells::specs::Cells::cell_at, cells::specs::Cells::set_cell), using(cells::proofs::Packing::digit_le, cells::proofs::Packing::put_lt, crate::proofs::Steps::digit_fits))]
+#[tactic(auto, unfolding(cells::specs::Cells::cell_at, cells::specs::Cells::set_cell), using(crate::proofs::Steps::fitting))]
 pub fn set_cell(words: &mut [u64], n: usize, p: usize, v: u64)
     requires { Room (length words.old) n × (p < cell_count n) × (v < 65536) }
     ensures { words.new ≡ set_cell words.old n p v }
@@ -69,14 +71,11 @@ pub fn probe(words: &[u64], n: usize, key: u64) -> Probe
 {
     let count = 12 * n + 192;
     let mut p = home(n, key);
-    let mut free = count;
+    let mut free = None;
     for _ in 0..count {
         let v = cell(words, n, p);
         if v == 0 {
-            if free < count {
-                return Probe::Free(free);
-            }
-            return Probe::Free(p);
+            return Probe::Free(free.unwrap_or(p));
         }
         if v <= n as u64 {
             let s = (v - 1) as usize;
@@ -84,16 +83,13 @@ pub fn probe(words: &[u64], n: usize, key: u64) -> Probe
                 return Probe::At(p, s);
             }
         } else {
-            if count <= free {
-                free = p;
-            }
+            free = free.or(Some(p));
         }
         p = after(n, p);
     }
-    if free < count {
-        Probe::Free(free)
-    } else {
-        Probe::Full
+    match free {
+        Some(p) => Probe::Free(p),
+        None => Probe::Full,
     }
 }
 

@@ -52,7 +52,7 @@ const PREVIOUS: usize = 3;
 const NEXT: usize = 4;
 
 // All records free, and no cell used, whatever the words held.
-#[tactic(auto, unfolding(crate::specs::Words::emptied), using(crate::proofs::Steps::filled_on, crate::proofs::Steps::filled_end))]
+#[tactic(auto, unfolding(crate::specs::Words::emptied), using(crate::proofs::Steps::filling))]
 fn empty_words(words: &mut [u64], n: usize)
     requires { Room (length words.old) n }
     ensures { words.new ≡ emptied words.old n }
@@ -99,7 +99,8 @@ fn read_record(words: &[u64], slot: usize) -> Record
 #[tactic(auto, unfolding(crate::specs::Words::replaced))]
 fn replace(words: &mut [u64], n: usize, slot: usize, item: Record) -> Record
     requires { Room (length words.old) n × (slot < n) }
-    ensures { (result ≡ record_at words.old slot) × (words.new ≡ replaced words.old n slot item) }
+    ensures record { result ≡ record_at words.old slot }
+    ensures words { words.new ≡ replaced words.old n slot item }
 {
     let old = read_record(words, slot);
     write_record(words, slot, item);
@@ -107,8 +108,9 @@ fn replace(words: &mut [u64], n: usize, slot: usize, item: Record) -> Record
     old
 }
 
-// Enters the live records anew, front first.
-#[tactic(auto, unfolding(crate::specs::Words::refilled), using(crate::proofs::Steps::entered_on, crate::proofs::Steps::entered_past, crate::proofs::Steps::entered_end))]
+// Enters the live records anew, front first. It is rare, and its loop is kept out of the insertion's way.
+#[cold]
+#[tactic(auto, unfolding(crate::specs::Words::refilled), using(crate::proofs::Steps::entering))]
 fn refill(words: &mut [u64], n: usize, len: usize)
     requires { Room (length words.old) n }
     ensures { words.new ≡ refilled words.old n len }
@@ -127,7 +129,9 @@ fn refill(words: &mut [u64], n: usize, len: usize)
 // Whether the capacity is within the limit, and the words are enough for it.
 #[tactic(auto, using(crate::proofs::Limits::is_room))]
 fn fits(words: &[u64], capacity: usize) -> Result<(), Unfit>
-    ensures { MatchResult result (λ _. (map_fits capacity (length words.now) ≡ true) × Room (length words.now) capacity) (λ _. map_fits capacity (length words.now) ≡ false) }
+    ensures { MatchResult result
+        (λ _. (map_fits capacity (length words.now) ≡ true) × Room (length words.now) capacity)
+        (λ _. map_fits capacity (length words.now) ≡ false) }
 {
     if limits::map(capacity, words.len()) {
         Ok(())
@@ -157,7 +161,7 @@ impl LinkedHashMap {
     }
 
     // The empty map, in words of any contents.
-    #[tactic(auto, using(crate::proofs::Opening::opening, crate::proofs::Opening::opening_refused, crate::proofs::Probed::err_unfit))]
+    #[tactic(auto, using(crate::proofs::Opening::openings))]
     pub fn open(words: &mut [u64], capacity: usize) -> Result<LinkedHashMap, Unfit>
         ensures { Opening words.old capacity words.new result }
     {
@@ -167,7 +171,7 @@ impl LinkedHashMap {
     }
 
     // The empty map. Very few records are removed one by one, which costs less than to wipe all cells.
-    #[tactic(auto, using(crate::proofs::Opening::clearing_refused, crate::proofs::Opening::clearing_drained, crate::proofs::Opening::clearing_wiped, crate::proofs::Probed::err_unfit))]
+    #[tactic(auto, using(crate::proofs::Opening::clearings))]
     pub fn clear(&mut self, words: &mut [u64]) -> Result<(), Unfit>
         ensures { Clearing words.old self.old words.new self.new result }
     {
@@ -191,7 +195,7 @@ impl LinkedHashMap {
         }
     }
 
-    #[tactic(auto, using(crate::proofs::Draining::drain_first, crate::proofs::Draining::drain_none, crate::proofs::Draining::drain_found, crate::proofs::Draining::drain_lost))]
+    #[tactic(auto, using(crate::proofs::Draining::drains))]
     fn remove_first(&mut self, words: &mut [u64])
         ensures { Draining words.old self.old (self.old.len - 1) words.new self.new }
     {
@@ -283,36 +287,6 @@ impl LinkedHashMap {
         }
     }
 
-    // Takes the record at this cell and slot out, and answers its first word.
-    #[tactic(auto, using(crate::proofs::Places::taking_unfit, crate::proofs::Places::taking_past, crate::proofs::Places::taking_beyond, crate::proofs::Places::taking_at))]
-    pub fn take_at(&mut self, words: &mut [u64], cell: usize, slot: usize) -> u64
-        ensures { TakingAt words.old self.old cell slot words.new self.new result }
-    {
-        if let Ok(()) = fits(words, self.capacity) {
-            if slot < self.capacity && cell < 12 * self.capacity + 192 {
-                return self.take(words, cell, slot).first;
-            }
-        }
-        0
-    }
-
-    // Puts the record at the front, in the place of its key's old one where there is one, and hands that back.
-    #[tactic(auto, using(crate::proofs::Places::put_over, crate::proofs::Places::put_full, crate::proofs::Places::put_refused))]
-    pub fn put(&mut self, words: &mut [u64], item: Record) -> Result<Option<Record>, PutError>
-        ensures { Putting words.old self.old item words.new self.new result }
-    {
-        match self.seek(words, item.key)? {
-            Probe::At(_, slot) => Ok(Some(self.replace_at(words, slot, item))),
-            Probe::Free(cell) if self.len < self.capacity => {
-                self.insert_at(words, cell, item);
-                Ok(None)
-            }
-            Probe::Free(_) => Err(PutError::Full),
-            // Every cell holds a record, as in no map.
-            Probe::Full => Err(PutError::Full),
-        }
-    }
-
     // The same, on words that have room and with a cell that they have.
     fn insert(&mut self, words: &mut [u64], cell: usize, item: Record)
         requires { Room (length words.old) self.old.capacity × (cell < cell_count self.old.capacity) }
@@ -332,6 +306,7 @@ impl LinkedHashMap {
     }
 
     // Counts the insertions, and now and then enters the records in the cells anew.
+    #[inline]
     fn count_insertion(&mut self, words: &mut [u64])
         requires { Room (length words.old) self.old.capacity }
         ensures { Grown words.old self.old self.old.len words.new self.new }
@@ -344,13 +319,17 @@ impl LinkedHashMap {
         self.refill_in = 6 * self.capacity + 96;
     }
 
-    pub fn remove(&mut self, words: &mut [u64], key: u64) -> Result<Option<Record>, Unfit>
-        ensures { Removing words.old self.old key words.new self.new result }
+    // Takes the record at this cell and slot out, and answers its first word.
+    #[tactic(auto, using(crate::proofs::Places::takings))]
+    pub fn take_at(&mut self, words: &mut [u64], cell: usize, slot: usize) -> u64
+        ensures { TakingAt words.old self.old cell slot words.new self.new result }
     {
-        match self.seek(words, key)? {
-            Probe::At(cell, slot) => Ok(Some(self.take(words, cell, slot))),
-            Probe::Free(_) | Probe::Full => Ok(None),
+        if let Ok(()) = fits(words, self.capacity) {
+            if slot < self.capacity && cell < 12 * self.capacity + 192 {
+                return self.take(words, cell, slot).first;
+            }
         }
+        0
     }
 
     // Takes the record at a slot, and its cell, out of the map, and hands it back.
@@ -366,6 +345,32 @@ impl LinkedHashMap {
         index::erase(words, n, cell);
         self.free(words, slot);
         old
+    }
+
+    // Puts the record at the front, in the place of its key's old one where there is one, and hands that back.
+    #[tactic(auto, using(crate::proofs::Places::puttings))]
+    pub fn put(&mut self, words: &mut [u64], item: Record) -> Result<Option<Record>, PutError>
+        ensures { Putting words.old self.old item words.new self.new result }
+    {
+        match self.seek(words, item.key)? {
+            Probe::At(_, slot) => Ok(Some(self.replace_at(words, slot, item))),
+            Probe::Free(cell) if self.len < self.capacity => {
+                self.insert_at(words, cell, item);
+                Ok(None)
+            }
+            Probe::Free(_) => Err(PutError::Full),
+            // Every cell holds a record, as in no map.
+            Probe::Full => Err(PutError::Full),
+        }
+    }
+
+    pub fn remove(&mut self, words: &mut [u64], key: u64) -> Result<Option<Record>, Unfit>
+        ensures { Removing words.old self.old key words.new self.new result }
+    {
+        match self.seek(words, key)? {
+            Probe::At(cell, slot) => Ok(Some(self.take(words, cell, slot))),
+            Probe::Free(_) | Probe::Full => Ok(None),
+        }
     }
 
     // Takes a key's record out and puts another in its place, at the front; where that one's key is held, nowhere. It is

@@ -8,7 +8,7 @@ use Rattle.expiring_model.specs.declared.answers.Answer.{Answer}
 use Rattle.expiring_model.specs.declared.answers.Answer.TheVariants as answer
 use Rattle.lazy_heap_model.specs.Model.{heap_len}
 use Rattle.expiration_index.specs.declared.answers.Count.{Count}
-use Rattle.expiring.specs.declared.expiring.Expiring.{Expiring}
+use Rattle.expiring.specs.declared.answers.Reply.{Reply}
 use Rattle.expiring.specs.Book.{heap_of, model_of}
 use Rattle.expiring.specs.Calls.{HeapLength, DeadlinesHeld}
 use Rattle.text.specs.Text.{fill}
@@ -16,7 +16,6 @@ use Rattle.text.specs.Writing.{Puts}
 use Rattle.text.proofs.Laws.{fill_size}
 use Rattle.session.specs.declared.answer.Counts.{Counts}
 use Rattle.session.specs.Answers.{line_format, line_numbers, line_of, Prints, head_of, tail_of}
-use Rattle.session.specs.declared.step.Session.TheVariants as session
 use Rattle.session.specs.Session.{room, Written, Tells, number_in}
 
 -- the longest format has 43 bytes, and no answer more than five numbers
@@ -67,11 +66,11 @@ module _ {out out' : List ℕ} (a : Answer) (c : Counts) {n : ℕ} (enough : roo
   printed = let h : 0 + length (line_of a c) ≤ length out = omega (arith, enough, line_size a c) in record { size = omega (arith, p.ends h); bytes = p.written h }
 
 -- a book's answer, with its counts
-module _ {ws out out' : List ℕ} {b : Expiring} (a : Answer) (d : ℕ) {n h l : ℕ} {entries held : Count} (enough : room ≤ length out) (p : Prints out a (record { discarded = d; heap = h; held = l }) out' n) where
-  pub told : HeapLength ws b entries → DeadlinesHeld ws b held → h ≡ number_in entries → l ≡ number_in held → Tells ws b a d out out' (record { session = session.Open b; written = n })
+module _ {ws out out' : List ℕ} (r : Reply) {n h l : ℕ} {entries held : Count} (enough : room ≤ length out) (p : Prints out r.answer (record { discarded = r.discarded; heap = h; held = l }) out' n) where
+  pub told : HeapLength ws r.book entries → DeadlinesHeld ws r.book held → h ≡ number_in entries → l ≡ number_in held → Tells ws r out out' n
   unfolding model_of
   told x y e f = record {
-    session = refl;
-    safe = record { words = refl; lent = p.size; within = p.within };
-    written = λ o. let i : h ≡ heap_len (heap_of ws b) = e ∙ ap number_in (x.answer o) in let j : l ≡ length (model_of ws b 0 0).deadlines = f ∙ ap number_in (y.answer o) in subst (λ (z : Counts). Written out (line_of a z) out' n) (ap (λ (z : ℕ). record { discarded = d; heap = z; held = l }) i ∙ ap (λ (z : ℕ). record { discarded = d; heap = heap_len (heap_of ws b); held = z }) j) (printed a _ enough p);
+    lent = p.size;
+    within = p.within;
+    written = λ o. let i : h ≡ heap_len (heap_of ws r.book) = e ∙ ap number_in (x.answer o) in let j : l ≡ length (model_of ws r.book 0 0).deadlines = f ∙ ap number_in (y.answer o) in subst (λ (z : Counts). Written out (line_of r.answer z) out' n) (ap (λ (z : ℕ). record { discarded = r.discarded; heap = z; held = l }) i ∙ ap (λ (z : ℕ). record { discarded = r.discarded; heap = heap_len (heap_of ws r.book); held = z }) j) (printed r.answer _ enough p);
   }

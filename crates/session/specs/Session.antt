@@ -1,5 +1,5 @@
 -- What a session prints, as the plain book has it.
-use Rattle.std.specs.Prelude.{◌≡◌, cond, ◌||◌, List, [], ◌∷◌, ◌++◌, ℕ, ◌<◌, ◌≤◌, ltb, length}
+use Rattle.std.specs.Prelude.{◌≡◌, Option, None, Some, Result, Ok, Err, cond, ◌||◌, List, [], ◌∷◌, ◌++◌, ℕ, ◌<◌, ◌≤◌, ltb, length}
 use Rattle.std.proofs.lemmas.List.Edits.{sets}
 use Rattle.time.specs.declared.tick.Tick.{Tick}
 use Rattle.time.specs.declared.refusal.Outcome.{Outcome}
@@ -12,8 +12,8 @@ use Rattle.lazy_heap_model.specs.Model as heap
 use Rattle.expiration_index.specs.declared.answers.Count.{Count}
 use Rattle.expiration_index.specs.declared.answers.Count.TheVariants as count
 use Rattle.expiration_index.specs.Index.{factor}
-use Rattle.expiring_model.specs.declared.answers.Answer.{Answer}
 use Rattle.expiring_model.specs.declared.answers.Answer.TheVariants as answer
+use Rattle.expiring.specs.declared.answers.Reply.{Reply}
 use Rattle.expiring.specs.declared.expiring.Expiring.{Expiring}
 use Rattle.expiring_model.specs.declared.lifetimes.DefaultDuration.{DefaultDuration}
 use Rattle.expiring_model.specs.declared.lifetimes.DefaultDuration.TheVariants as asked
@@ -30,19 +30,18 @@ use Rattle.forms.specs.declared.form.Form.{Form}
 use Rattle.forms.specs.declared.form.Form.TheVariants as form
 use Rattle.session.specs.declared.step.Session as code
 use Rattle.session.specs.declared.step.Session.TheVariants as session
-use Rattle.session.specs.declared.step.Stepped.{Stepped}
 use Rattle.forms.specs.Forms.{Reads}
 use Rattle.session.specs.Answers.{line_of}
 
 -- a form's call of the book
 abbrev pub call_of : Call → book.Call
 call_of (call.Put k v) = book.insert k v
-call_of (call.PutWithTtl k v s n) = book.insert_with_ttl k v (duration_of s n)
+call_of (call.PutWithTtl k v l) = book.insert_with_ttl k v (duration_of l.secs l.nanos)
 call_of (call.Get k) = book.get k
 call_of (call.Peek k) = book.peek k
 call_of (call.Has k) = book.contains k
 call_of (call.Drop k) = book.remove k
-call_of (call.Ttl k s n) = book.set_ttl k (duration_of s n)
+call_of (call.Ttl k l) = book.set_ttl k (duration_of l.secs l.nanos)
 call_of (call.Status k) = book.ttl_status k
 call_of call.Purge = book.purge_expired
 call_of call.Due = book.next_deadline
@@ -88,23 +87,23 @@ calling t c p h = (running (book_after t c p) (heap_by t c p h), line_of (answer
 unfoldable pub malformed : Book → Heap → Step
 malformed p h = (running p h, line_of (answer.Refused MalformedLine) (counts 0 p h))
 
-abbrev pub step : ℕ → State → Form → Step
-step size waiting (form.Book c d s) = opening size c d s asked.Nothing
-step size waiting (form.BookWithTtl c d s l n) = opening size c d s (asked.Of (duration_of l n))
-step size waiting (form.At t c) = refused_first MalformedLine
-step size waiting form.Nothing = refused_first MalformedLine
-step size (running p h) (form.At t c) = calling (record { 0 = t }) (call_of c) p h
-step size (running p h) (form.Book c d s) = malformed p h
-step size (running p h) (form.BookWithTtl c d s l n) = malformed p h
-step size (running p h) form.Nothing = malformed p h
+abbrev pub step : ℕ → State → Option Form → Step
+step size waiting (Some (form.Book c d s)) = opening size c d s asked.Nothing
+step size waiting (Some (form.BookWithTtl c d s l)) = opening size c d s (asked.Of (duration_of l.secs l.nanos))
+step size waiting (Some (form.At t c)) = refused_first MalformedLine
+step size waiting None = refused_first MalformedLine
+step size (running p h) (Some (form.At t c)) = calling (record { 0 = t }) (call_of c) p h
+step size (running p h) (Some (form.Book c d s)) = malformed p h
+step size (running p h) (Some (form.BookWithTtl c d s l)) = malformed p h
+step size (running p h) None = malformed p h
 step size ended f = (ended, [])
 
--- ---- over forms
-unfoldable pub printed : ℕ → State → List Form → List ℕ
+-- ---- over what lines are read as
+unfoldable pub printed : ℕ → State → List (Option Form) → List ℕ
 printed size s [] = []
 printed size s (f ∷ fs) = (step size s f).1 ++ printed size (step size s f).0 fs
 
-unfoldable pub state_after : ℕ → State → List Form → State
+unfoldable pub state_after : ℕ → State → List (Option Form) → State
 state_after size s [] = s
 state_after size s (f ∷ fs) = state_after size (step size s f).0 fs
 
@@ -121,47 +120,55 @@ pub record Written (out text out' : List ℕ) (n : ℕ) : Type 0 where
   pub bytes : out' ≡ sets out 0 text
 
 -- the code goes where a step goes, and prints what it prints
-pub record Follows (out : List ℕ) (to : Step) (ws' out' : List ℕ) (r : Stepped) : Type 0 where
-  pub state : Stands ws' r.session to.0
-  pub written : Written out to.1 out' r.written
+pub record Follows (out : List ℕ) (to : Step) (ws' : List ℕ) (s' : code.Session) (out' : List ℕ) (n : ℕ) : Type 0 where
+  pub state : Stands ws' s' to.0
+  pub written : Written out to.1 out' n
 
 -- the most bytes of an answer
 abbrev pub room : ℕ
 room = 160
 
 -- whatever the words are
-pub record Safe (ws out ws' out' : List ℕ) (r : Stepped) : Type 0 where
+pub record Safe (ws out ws' out' : List ℕ) (n : ℕ) : Type 0 where
   pub words : length ws' ≡ length ws
   pub lent : length out' ≡ length out
-  pub within : r.written ≤ length out
+  pub within : n ≤ length out
 
 -- `step`
-pub record Steps (ws : List ℕ) (s : code.Session) (line out ws' out' : List ℕ) (r : Stepped) : Type 0 where
-  pub safe : Safe ws out ws' out' r
-  pub short : length out < room → (r.session ≡ s) × (r.written ≡ 0) × (ws' ≡ ws) × (out' ≡ out)
-  pub follows : room ≤ length out → (st : State) → Stands ws s st → (f : Form) → Reads line f → Follows out (step (length ws) st f) ws' out' r
+pub record Steps (ws : List ℕ) (s : code.Session) (line out ws' : List ℕ) (s' : code.Session) (out' : List ℕ) (n : ℕ) : Type 0 where
+  pub safe : Safe ws out ws' out' n
+  pub short : length out < room → (s' ≡ s) × (n ≡ 0) × (ws' ≡ ws) × (out' ≡ out)
+  pub follows : room ≤ length out → (st : State) → Stands ws s st → (f : Option Form) → Reads line f → Follows out (step (length ws) st f) ws' s' out' n
 
--- ---- its parts, with room for an answer
--- a step from no book
-pub record Begins (ws out : List ℕ) (to : Step) (ws' out' : List ℕ) (r : Stepped) : Type 0 where
-  pub safe : Safe ws out ws' out' r
-  pub follows : Follows out to ws' out' r
+-- ---- its parts
+-- a step from no book, with room for an answer
+pub record Begins (ws out : List ℕ) (to : Step) (ws' : List ℕ) (s' : code.Session) (out' : List ℕ) (n : ℕ) : Type 0 where
+  pub safe : Safe ws out ws' out' n
+  pub follows : Follows out to ws' s' out' n
 
--- a refused first line
-pub record Refuses (out : List ℕ) (why : Refusal) (out' : List ℕ) (r : Stepped) : Type 0 where
-  pub session : r.session ≡ session.Ended
-  pub written : Written out (refused_first why).1 out' r.written
+-- the book that such a step opens, or the refusal that it prints
+pub record Opens (ws : List ℕ) (to : Step) (ws' : List ℕ) (r : Result Expiring Refusal) : Type 0 where
+  pub words : length ws' ≡ length ws
+  pub opened : (b : Expiring) → r ≡ Ok b → Stands ws' (session.Open b) to.0 × (to.1 ≡ [])
+  pub refused : (why : Refusal) → r ≡ Err why → (to ≡ refused_first why) × (ws' ≡ ws)
 
--- a step from a book
-pub record Continues (ws : List ℕ) (b : Expiring) (f : Form) (out ws' out' : List ℕ) (r : Stepped) : Type 0 where
-  pub safe : Safe ws out ws' out' r
-  pub follows : (p : Book) → IsBook ws b → model_of ws b p.replaced p.removed ≡ p → Follows out (step (length ws) (running p (heap_of ws b)) f) ws' out' r
+-- a step from a book, with room for an answer
+pub record Continues (ws : List ℕ) (b : Expiring) (f : Option Form) (out ws' : List ℕ) (s' : code.Session) (out' : List ℕ) (n : ℕ) : Type 0 where
+  pub safe : Safe ws out ws' out' n
+  pub follows : (p : Book) → IsBook ws b → model_of ws b p.replaced p.removed ≡ p → Follows out (step (length ws) (running p (heap_of ws b)) f) ws' s' out' n
 
--- a book's answer
-pub record Tells (ws : List ℕ) (b : Expiring) (a : Answer) (d : ℕ) (out out' : List ℕ) (r : Stepped) : Type 0 where
-  pub session : r.session ≡ session.Open b
-  pub safe : Safe ws out ws out' r
-  pub written : IsBook ws b → Written out (line_of a (counts d (model_of ws b 0 0) (heap_of ws b))) out' r.written
+-- what the book answers in such a step
+pub record Replies (ws : List ℕ) (b : Expiring) (f : Option Form) (ws' : List ℕ) (r : Reply) : Type 0 where
+  pub words : length ws' ≡ length ws
+  pub book : IsBook ws b → IsBook ws' r.book
+  pub state : (p : Book) → IsBook ws b → model_of ws b p.replaced p.removed ≡ p → Stands ws' (session.Open r.book) (step (length ws) (running p (heap_of ws b)) f).0
+  pub line : (p : Book) → IsBook ws b → model_of ws b p.replaced p.removed ≡ p → line_of r.answer (counts r.discarded (model_of ws' r.book 0 0) (heap_of ws' r.book)) ≡ (step (length ws) (running p (heap_of ws b)) f).1
+
+-- a book's answer is written, with its counts
+pub record Tells (ws : List ℕ) (r : Reply) (out out' : List ℕ) (n : ℕ) : Type 0 where
+  pub lent : length out' ≡ length out
+  pub within : n ≤ length out
+  pub written : IsBook ws r.book → Written out (line_of r.answer (counts r.discarded (model_of ws r.book 0 0) (heap_of ws r.book))) out' n
 
 abbrev pub number_in : Count → ℕ
 number_in (count.Number n) = n

@@ -7,7 +7,7 @@ ghost use Rattle.session.specs.Answers.{Prints, head_of, tail_of};
 use expiring_model::Answer;
 
 // Entries discarded by a call, and after it entries in the heap and deadlines held.
-#[derive(Clone, Copy)]
+#[derive(Clone, Copy, Default)]
 pub struct Counts {
     pub discarded: u64,
     pub heap: u64,

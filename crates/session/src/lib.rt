@@ -7,4 +7,4 @@ mod lines;
 mod step;
 
 pub use lines::{Ran, run};
-pub use step::{Session, Stepped};
+pub use step::Session;

@@ -84,28 +84,20 @@ same_digits (suc k) n f = go (last (suc (suc k)) n) (last (suc k) n) (same_digit
     go (after h e) (only g d) ih = absurd (omega arith)
     go (after h e) (after g d) ih = e ∙ ap (λ (l : List ℕ). l ++ (digit (n % 10) ∷ [])) ih ∙ sym d
 
--- ---- counting them: so many are counted, and the rest are to be
-pub record Counted (n count rest : ℕ) : Type 0 where
-  pub left : ℕ
-  pub all : count + left ≡ 20
-  pub below : rest < 10 ^ left
-  pub none : rest ≡ 0 → count ≡ length (decimal n)
-  pub more : 0 < rest → count + length (decimal_in left rest) ≡ length (decimal n)
+ten_pos : (k : ℕ) → 0 < 10 ^ k
+ten_pos zero = omega arith
+ten_pos (suc k) = rw pow-suc (omega (arith, ten_pos k))
 
-pub counts : (n : ℕ) → n < 2 ^ 64 → Counted n 1 (n / 10)
-counts n h = go (last 19 n)
+-- ---- a number from 10^k on and below 10^(k+1) has k + 1
+pub size_is : (m k n : ℕ) → k < m → 10 ^ k ≤ n → n < 10 * 10 ^ k → length (decimal_in m n) ≡ k + 1
+size_is zero k n h lo hi = absurd (omega arith)
+size_is (suc m) zero n h lo hi = go (last m n)
   where
-    go : Last 19 n → Counted n 1 (n / 10)
-    go (only s e) = record { left = 19; all = refl; below = omega arith; none = λ _. rw e refl; more = λ p. absurd (omega arith) }
-    go (after l e) = record { left = 19; all = refl; below = omega arith; none = λ z. absurd (omega arith); more = λ _. rw e (simp length-append (omega arith)) }
-
-pub counts_on : {n count rest : ℕ} → Counted n count rest → 0 < rest → Counted n (count + 1) (rest / 10)
-counts_on {n} {count} {rest} s p = go s.left s.all s.below (s.more p)
+    go : Last m n → length (decimal_in (suc m) n) ≡ 1
+    go (only l e) = rw e refl
+    go (after l e) = absurd (omega arith)
+size_is (suc m) (suc k) n h lo hi = go (last m n) (size_is m k (n / 10) (omega arith) (omega (arith, rw pow-suc at lo)) (omega (arith, rw pow-suc at hi)))
   where
-    go : (left : ℕ) → count + left ≡ 20 → rest < 10 ^ left → count + length (decimal_in left rest) ≡ length (decimal n) → Counted n (count + 1) (rest / 10)
-    go zero a b m = absurd (omega arith)
-    go (suc k) a b m = on (last k rest) (rw pow-suc at b)
-      where
-        on : Last k rest → rest < 10 ^ k * 10 → Counted n (count + 1) (rest / 10)
-        on (only l e) q = record { left = k; all = omega arith; below = omega arith; none = λ _. rw e at m; more = λ z. absurd (omega arith) }
-        on (after l e) q = record { left = k; all = omega arith; below = omega arith; none = λ z. absurd (omega arith); more = λ _. omega (arith, simp length-append at (rw e at m)) }
+    go : Last m n → length (decimal_in m (n / 10)) ≡ k + 1 → length (decimal_in (suc m) n) ≡ suc k + 1
+    go (only l e) ih = absurd (omega (arith, rw pow-suc at lo, ten_pos k))
+    go (after l e) ih = rw e (simp length-append (omega (arith, ih)))

@@ -2,7 +2,7 @@
 use mathlib.Core.Path.{◌≡◌, refl}
 use mathlib.Core.Bool.{true, false}
 use mathlib.Core.List.{List, [], ◌∷◌, ◌++◌}
-use mathlib.Core.Option.{some}
+use Rattle.std.specs.Prelude.{Some}
 use Prim.Native.Nat.{ℕ, ◌^◌, ◌<◌, ◌≤◌}
 use native.Mathlib.Omega.{arith}
 use lib.ListN.{length, get_or}
@@ -17,15 +17,15 @@ pub use Rattle.text.proofs.Fills.{fill_size}
 pub use Rattle.text.proofs.Stores.{sets_append, puts_then}
 
 -- ---- what is written is read back
-pub number_read : (v c : ℕ) (s : List ℕ) → v < 2 ^ 64 → is_digit c ≡ false → read_number (decimal v ++ (c ∷ s)) ≡ some (v, c ∷ s)
+pub number_read : (v c : ℕ) (s : List ℕ) → v < 2 ^ 64 → is_digit c ≡ false → read_number (decimal v ++ (c ∷ s)) ≡ Some (v, c ∷ s)
 number_read v c s b h = number_back v (c ∷ s) b (rw h refl)
 
 -- the numbers of a format, none of which goes on into what comes after it
-pub read_fill : (f ns rest : List ℕ) → parted f rest ≡ true → slots f ≡ length ns → length ns ≤ 5 → ((i : ℕ) → get_or ns i 0 < 2 ^ 64) → read_in f (fill f ns ++ rest) ≡ some (sets (0 ∷ 0 ∷ 0 ∷ 0 ∷ 0 ∷ []) 0 ns, rest)
+pub read_fill : (f ns rest : List ℕ) → parted f rest ≡ true → slots f ≡ length ns → length ns ≤ 5 → ((i : ℕ) → get_or ns i 0 < 2 ^ 64) → read_in f (fill f ns ++ rest) ≡ Some (sets (0 ∷ 0 ∷ 0 ∷ 0 ∷ 0 ∷ []) 0 ns, rest)
 read_fill f ns rest p e l b = format_back f rest 0 (0 ∷ 0 ∷ 0 ∷ 0 ∷ 0 ∷ []) ns p e (omega arith) b
 
 -- ---- what is read was written
-module _ (f s ns rest : List ℕ) (e : read_in f s ≡ some (ns, rest)) where
+module _ (f s ns rest : List ℕ) (e : read_in f s ≡ Some (ns, rest)) where
   read_found : Found 0 (0 ∷ 0 ∷ 0 ∷ 0 ∷ 0 ∷ []) f s ns rest
   read_found = found f s 0 (0 ∷ 0 ∷ 0 ∷ 0 ∷ 0 ∷ []) ns rest refl e
 

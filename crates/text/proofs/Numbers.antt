@@ -2,7 +2,7 @@
 use mathlib.Core.Path.{◌≡◌, refl, sym, ap, ◌∙◌}
 use mathlib.Core.Bool.{Bool, true, false, cond, ◌&&◌, true≢false}
 use mathlib.Core.List.{List, [], ◌∷◌, ◌++◌, append_assoc}
-use mathlib.Core.Option.{Option, none, some}
+use Rattle.std.specs.Prelude.{Option, None, Some}
 use Prim.Native.Nat.{ℕ, zero, suc, ◌+◌, ◌-◌, ◌*◌, ◌/◌, ◌%◌, ◌^◌, ◌<◌, ◌≤◌}
 use native.Mathlib.Nat.{pow-suc}
 use native.Mathlib.Omega.{arith}
@@ -37,10 +37,10 @@ read_decimal (suc k) v r p f b = go (last k v) (λ q. read_decimal k (v / 10) (d
         rw e (rw append_assoc (ih (omega arith) ∙ on_next (v / 10) (v % 10) r (omega arith) (omega arith) ∙ rw w refl))
 
 -- ---- to the number
-pub not_found : {A : Type 0} {x : A} → ◌≡◌ {A = Option A} none (some x) → ⊥
+pub not_found : {A : Type 0} {x : A} → ◌≡◌ {A = Option A} None (Some x) → ⊥
 not_found e = let z : ◌≡◌ {A = ℕ} 0 1 = cc in omega arith
 
-pub same_found : {A B : Type 0} {a c : A} {b d : B} → ◌≡◌ {A = Option (A × B)} (some (a, b)) (some (c, d)) → (a ≡ c) × (b ≡ d)
+pub same_found : {A B : Type 0} {a c : A} {b d : B} → ◌≡◌ {A = Option (A × B)} (Some (a, b)) (Some (c, d)) → (a ≡ c) × (b ≡ d)
 same_found {A} {B} {a} {c} {b} {d} e =
     let q : ◌≡◌ {A = A × B} (a, b) (c, d) = cc in
     (ap (λ (x : A × B). x.0) q, ap (λ (x : A × B). x.1) q)
@@ -76,14 +76,14 @@ pub record Split (t s : List ℕ) (n : ℕ) (r : List ℕ) : Type 0 where
   pub text : t ++ s ≡ decimal n ++ r
   pub small : n < 2 ^ 64
 
-on_sound : (v : ℕ) (s : List ℕ) (n : ℕ) (r : List ℕ) → 0 < v → v < 2 ^ 64 → read_on v s ≡ some (n, r) → Split (decimal v) s n r
+on_sound : (v : ℕ) (s : List ℕ) (n : ℕ) (r : List ℕ) → 0 < v → v < 2 ^ 64 → read_on v s ≡ Some (n, r) → Split (decimal v) s n r
 unfolding read_on
 on_sound v [] n r p b e =
     let (q, z) = same_found e in
     record { text = rw q (rw z refl); small = omega arith }
 on_sound v (c ∷ s) n r p b e = go (is_digit c) refl (ltb (v * 10 + (c - 48)) (2 ^ 64)) refl e (on_sound (v * 10 + (c - 48)) s n r (omega arith))
   where
-    go : (d : Bool) → is_digit c ≡ d → (l : Bool) → ltb (v * 10 + (c - 48)) (2 ^ 64) ≡ l → cond d (cond l (read_on (v * 10 + (c - 48)) s) none) (some (v, c ∷ s)) ≡ some (n, r) → (v * 10 + (c - 48) < 2 ^ 64 → read_on (v * 10 + (c - 48)) s ≡ some (n, r) → Split (decimal (v * 10 + (c - 48))) s n r) → Split (decimal v) (c ∷ s) n r
+    go : (d : Bool) → is_digit c ≡ d → (l : Bool) → ltb (v * 10 + (c - 48)) (2 ^ 64) ≡ l → cond d (cond l (read_on (v * 10 + (c - 48)) s) None) (Some (v, c ∷ s)) ≡ Some (n, r) → (v * 10 + (c - 48) < 2 ^ 64 → read_on (v * 10 + (c - 48)) s ≡ Some (n, r) → Split (decimal (v * 10 + (c - 48))) s n r) → Split (decimal v) (c ∷ s) n r
     go true d true l e ih =
         let (lo, hi) = digit_bounds c d in
         let m = ltb-true (v * 10 + (c - 48)) (2 ^ 64) l in
@@ -94,12 +94,12 @@ on_sound v (c ∷ s) n r p b e = go (is_digit c) refl (ltb (v * 10 + (c - 48)) (
         let (q, z) = same_found e in
         record { text = rw q (rw z refl); small = omega arith }
 
-pub number_sound : (s : List ℕ) (n : ℕ) (r : List ℕ) → read_number s ≡ some (n, r) → Split [] s n r
+pub number_sound : (s : List ℕ) (n : ℕ) (r : List ℕ) → read_number s ≡ Some (n, r) → Split [] s n r
 unfolding read_number decimal_in
 number_sound [] n r e = absurd (not_found e)
 number_sound (c ∷ s) n r e = go (is_digit c) refl (eqb c 48) refl e
   where
-    go : (d : Bool) → is_digit c ≡ d → (z : Bool) → eqb c 48 ≡ z → cond d (cond z (some (0, s)) (read_on (c - 48) s)) none ≡ some (n, r) → Split [] (c ∷ s) n r
+    go : (d : Bool) → is_digit c ≡ d → (z : Bool) → eqb c 48 ≡ z → cond d (cond z (Some (0, s)) (read_on (c - 48) s)) None ≡ Some (n, r) → Split [] (c ∷ s) n r
     go true d true z e =
         let (q, t) = same_found e in
         record { text = rw (eqb-true c 48 z) (rw (sym q) (rw t refl)); small = omega arith }

@@ -1,7 +1,7 @@
 -- Worked examples: the definitions give every answer, by computation.
 use mathlib.Core.Path.{◌≡◌, refl}
 use mathlib.Core.List.{List, [], ◌∷◌, map}
-use mathlib.Core.Option.{Option, none, some}
+use Rattle.std.specs.Prelude.{Option, None, Some}
 use Prim.Native.Nat.{ℕ}
 use Prim.Native.String.{String}
 use Rattle.text.specs.Text.{bytes, decimal_in, fill}
@@ -17,8 +17,8 @@ pub data Answer : Type 0 where
   text : List ℕ → Answer
 
 abbrev answer_of : Option (List ℕ × List ℕ) → Answer
-answer_of none = nothing
-answer_of (some r) = numbers r.0 r.1
+answer_of None = nothing
+answer_of (Some r) = numbers r.0 r.1
 
 abbrev answered : Question → Answer
 answered (reading f s) = answer_of (read_in (bytes f) (bytes s))

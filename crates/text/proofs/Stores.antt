@@ -1,12 +1,12 @@
 -- Runs of stores, one after another.
 use mathlib.Core.Path.{◌≡◌, refl, sym, ap, ◌∙◌}
-use mathlib.Core.List.{List, [], ◌∷◌, ◌++◌}
+use mathlib.Core.List.{List, [], ◌∷◌, ◌++◌, append_assoc}
 use Prim.Native.Nat.{ℕ, suc, ◌+◌, ◌-◌, ◌/◌, ◌%◌, ◌<◌, ◌≤◌}
 use native.Mathlib.Nat.{add-suc, suc-add, add-zero}
-use native.Mathlib.Numerals.{add-one}
 use native.Mathlib.Omega.{arith}
-use lib.ListN.{length, length-append, length-set, get_or, drop, set, drop_of_length-le}
-use lib.Seq.{sets, length-sets, set_comm, drop-cons}
+use borrow.Rule.Slice.PartMut.{put_mid}
+use lib.ListN.{length, length-append, length-set, take, drop, set}
+use lib.Seq.{sets, sets-eq, length-sets, set_comm, drop-drop}
 use Rattle.text.specs.Text.{digit, decimal}
 use Rattle.text.specs.Writing.{last_digits, Puts}
 use Rattle.text.proofs.Decimals.{one_digit, all_digits, length_last}
@@ -62,19 +62,19 @@ puts_then {out} {out₁} {out₂} {at} {m} {n} {t} {u} p q = record {
 pub no_room : (out : List ℕ) (at : ℕ) (t : List ℕ) → length out < at + length t → Puts out at t out (length out)
 no_room out at t full = record { ends = λ h. absurd (omega arith); written = λ h. absurd (omega arith); within = omega arith; size = refl }
 
--- ---- a text, a byte at a time: the rest makes of the slice what the whole does
-pub byte_on : (l : List ℕ) (at i : ℕ) (t : List ℕ) → i < length t → sets l (at + i) (drop i t) ≡ sets (set l (at + i) (get_or t i 0)) (at + (i + 1)) (drop (i + 1) t)
-byte_on l at i t h =
-    let e : at + (i + 1) ≡ suc (at + i) = omega arith in
-    rw e (rw (add-one i) (rw (drop-cons t i 0 h) refl))
-
-pub puts_text : (out : List ℕ) (at : ℕ) (t out' : List ℕ) (i : ℕ) → at + length t ≤ length out → i ≤ length t → length t ≤ i → length out' ≡ length out → sets out' (at + i) (drop i t) ≡ sets out at t → Puts out at t out' (at + i)
-puts_text out at t out' i room passed all size e = record {
-  ends = λ _. omega arith;
-  written = λ _. rw (drop_of_length-le t all) at e;
-  within = omega arith;
-  size = size;
-}
+-- ---- a text that is copied to its place
+pub puts_text : (out : List ℕ) (at : ℕ) (t : List ℕ) {t' : List ℕ} → at + length t ≤ length out → t' ≡ t → Puts out at t (put_mid at (at + length t - at) out t') (at + length t)
+puts_text out at t room e = rw e (record {
+  ends = λ _. refl;
+  written = λ _. same;
+  within = room;
+  size = ap length same ∙ length-sets out at t;
+})
+  where
+    same : put_mid at (at + length t - at) out t ≡ sets out at t
+    same =
+        let n : at + length t - at ≡ length t = omega arith in
+        rw n (ap (λ (l : List ℕ). take at out ++ (t ++ l)) (drop-drop (length t) at out) ∙ sym (append_assoc (take at out) t (drop (at + length t) out))) ∙ sym (sets-eq t out at room)
 
 -- ---- a number
 pub puts_number : (out : List ℕ) (at n : ℕ) (out' : List ℕ) (count : ℕ) → count ≡ length (decimal n) → at + count ≤ length out → out' ≡ sets out at (last_digits count n) → Puts out at (decimal n) out' (at + count)

@@ -2,7 +2,7 @@
 use mathlib.Core.Path.{◌≡◌, refl, sym, ap, ◌∙◌}
 use mathlib.Core.Bool.{Bool, true, false, cond}
 use mathlib.Core.List.{List, [], ◌∷◌, ◌++◌, append_assoc}
-use mathlib.Core.Option.{Option, none, some}
+use Rattle.std.specs.Prelude.{Option, None, Some}
 use Prim.Native.Nat.{ℕ, zero, suc, ◌^◌, ◌<◌}
 use native.Mathlib.Omega.{arith}
 use borrow.Author.Tests.{ltb-true, eqb-true, eqb-false}
@@ -48,7 +48,7 @@ module _ {k : ℕ} {ns f ns' rest : List ℕ} (size : length ns ≡ 5) where
   byte_found : {c : ℕ} {s : List ℕ} → (c ≡ 48 → ⊥) → Found k ns f s ns' rest → Found k ns (c ∷ f) (c ∷ s) ns' rest
   byte_found {c} {s} h t = record { text = rw (fill_other c f (drop k ns') h) (ap (λ (l : List ℕ). c ∷ l) t.text); size = t.size; kept = t.kept; small = t.small }
 
-pub found : (f s : List ℕ) (k : ℕ) (ns ns' rest : List ℕ) → length ns ≡ 5 → read_from k ns f s ≡ some (ns', rest) → Found k ns f s ns' rest
+pub found : (f s : List ℕ) (k : ℕ) (ns ns' rest : List ℕ) → length ns ≡ 5 → read_from k ns f s ≡ Some (ns', rest) → Found k ns f s ns' rest
 unfolding read_from fill
 found [] s k ns ns' rest h e =
     let (q, t) = same_found e in
@@ -56,21 +56,21 @@ found [] s k ns ns' rest h e =
 found (c ∷ f) s k ns ns' rest h e = go (eqb c 48) refl e (λ s k ns. found f s k ns ns' rest)
   where
     go : (z : Bool) → eqb c 48 ≡ z
-        → cond z (and_then (read_number s) (λ r. cond (ltb k 5) (read_from (suc k) (set ns k r.0) f r.1) none)) (and_then (read_byte c s) (λ r. read_from k ns f r)) ≡ some (ns', rest)
-        → ((s : List ℕ) (k : ℕ) (ns : List ℕ) → length ns ≡ 5 → read_from k ns f s ≡ some (ns', rest) → Found k ns f s ns' rest)
+        → cond z (and_then (read_number s) (λ r. cond (ltb k 5) (read_from (suc k) (set ns k r.0) f r.1) None)) (and_then (read_byte c s) (λ r. read_from k ns f r)) ≡ Some (ns', rest)
+        → ((s : List ℕ) (k : ℕ) (ns : List ℕ) → length ns ≡ 5 → read_from k ns f s ≡ Some (ns', rest) → Found k ns f s ns' rest)
         → Found k ns (c ∷ f) s ns' rest
     go true z e ih = numbered (read_number s) refl (ltb k 5) refl e
       where
-        numbered : (o : Option (ℕ × List ℕ)) → read_number s ≡ o → (l : Bool) → ltb k 5 ≡ l → and_then o (λ r. cond l (read_from (suc k) (set ns k r.0) f r.1) none) ≡ some (ns', rest) → Found k ns (c ∷ f) s ns' rest
-        numbered none m l b e = absurd (not_found e)
-        numbered (some r) m true b e = rw (eqb-true c 48 z) (number_found h (number_sound s r.0 r.1 m) (ltb-true k 5 b) (ih r.1 (suc k) (set ns k r.0) (length-set ns k r.0 ∙ h) e))
-        numbered (some r) m false b e = absurd (not_found e)
+        numbered : (o : Option (ℕ × List ℕ)) → read_number s ≡ o → (l : Bool) → ltb k 5 ≡ l → and_then o (λ r. cond l (read_from (suc k) (set ns k r.0) f r.1) None) ≡ Some (ns', rest) → Found k ns (c ∷ f) s ns' rest
+        numbered None m l b e = absurd (not_found e)
+        numbered (Some r) m true b e = rw (eqb-true c 48 z) (number_found h (number_sound s r.0 r.1 m) (ltb-true k 5 b) (ih r.1 (suc k) (set ns k r.0) (length-set ns k r.0 ∙ h) e))
+        numbered (Some r) m false b e = absurd (not_found e)
     go false z e ih = byte s e
       where
-        byte : (s : List ℕ) → and_then (read_byte c s) (λ r. read_from k ns f r) ≡ some (ns', rest) → Found k ns (c ∷ f) s ns' rest
+        byte : (s : List ℕ) → and_then (read_byte c s) (λ r. read_from k ns f r) ≡ Some (ns', rest) → Found k ns (c ∷ f) s ns' rest
         byte [] e = absurd (not_found e)
         byte (x ∷ t) e = same (eqb x c) refl e
           where
-            same : (b : Bool) → eqb x c ≡ b → and_then (cond b (some t) none) (λ r. read_from k ns f r) ≡ some (ns', rest) → Found k ns (c ∷ f) (x ∷ t) ns' rest
+            same : (b : Bool) → eqb x c ≡ b → and_then (cond b (Some t) None) (λ r. read_from k ns f r) ≡ Some (ns', rest) → Found k ns (c ∷ f) (x ∷ t) ns' rest
             same true b e = rw (eqb-true x c b) (byte_found h (eqb-false c 48 z) (ih t k ns h e))
             same false b e = absurd (not_found e)

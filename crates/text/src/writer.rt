@@ -1,19 +1,14 @@
 // Writing by a format.
-ghost use Rattle.std.specs.Prelude.{◌≡◌, ◌+◌, ◌≤◌, length};
+ghost use Rattle.std.specs.Prelude.{◌≡◌, ◌+◌, ◌<◌, ◌≤◌, length};
 ghost use Rattle.text.specs.Text.{decimal};
 ghost use Rattle.text.specs.Writing.{Spells, Puts};
 
 // How many digits a number has.
 fn places(n: u64) -> usize
+    requires { 0 < n }
     ensures { result ≡ length (decimal n) }
 {
-    let mut count = 1;
-    let mut rest = n / 10;
-    while 0 < rest {
-        rest /= 10;
-        count += 1;
-    }
-    count
+    n.ilog10() as usize + 1
 }
 
 // Writes the last digits of a number, so many of them.
@@ -21,16 +16,15 @@ fn spell(out: &mut [u8], at: usize, count: usize, n: u64)
     requires { at + count ≤ length out.old }
     ensures { Spells out.old at count n out.new }
 {
-    let mut i = at + count;
     let mut rest = n;
-    while at < i {
-        i -= 1;
+    for i in (at..at + count).rev() {
         out[i] = b'0' + (rest % 10) as u8;
         rest /= 10;
     }
 }
 
 // Writes a text at a place, and says where it ends. Where there is no room for it, it writes nothing and says where the room ends.
+#[tactic(auto, using(crate::proofs::Stores::puts_text))]
 pub fn put(out: &mut [u8], at: usize, text: &[u8]) -> usize
     ensures { Puts out.old at text.now out.new result }
 {
@@ -40,12 +34,9 @@ pub fn put(out: &mut [u8], at: usize, text: &[u8]) -> usize
     if out.len() - at < text.len() {
         return out.len();
     }
-    let mut i = 0;
-    while i < text.len() {
-        out[at + i] = text[i];
-        i += 1;
-    }
-    at + i
+    let end = at + text.len();
+    out[at..end].copy_from_slice(text);
+    end
 }
 
 // Writes a number likewise. Most have one digit.

@@ -4,37 +4,11 @@
 // end of a pipe gets it.
 #![tactic(auto)]
 
-ghost use Rattle.std.specs.Prelude.{◌≡◌, ◌+◌, ◌<◌, ◌≤◌, min, length, take};
+ghost use Rattle.std.specs.Prelude.{◌≡◌, ◌+◌, ◌≤◌, length, take};
 ghost use Rattle.tube_book.specs.Keeping.{is_ended, Keeps};
 
 use session::Session;
 use std::io::Read;
-
-// A session, and how many bytes at the start of the buffer are a line whose end has not been read.
-#[derive(Clone, Copy)]
-struct Reader {
-    session: Session,
-    kept: usize,
-    is_done: bool,
-}
-
-fn done() -> Reader {
-    Reader {
-        session: Session::Ended,
-        kept: 0,
-        is_done: true,
-    }
-}
-
-fn is_ended(session: Session) -> bool
-    ensures { result ≡ is_ended session }
-{
-    match session {
-        Session::Waiting => false,
-        Session::Open(_) => false,
-        Session::Ended => true,
-    }
-}
 
 // There are words for the largest book that a session opens, with 128 keys and 128 deadlines.
 fn main(rt: HostRuntime) {
@@ -59,72 +33,39 @@ fn answer_all(
     bytes: &mut [u8],
     out: &mut [u8],
 ) {
-    let mut reader = Reader {
-        session: Session::Waiting,
-        kept: 0,
-        is_done: false,
-    };
+    let mut session = Session::Waiting;
+    let mut kept = 0;
     for _ in 0..u64::MAX {
-        reader = answer_block(rt, input, reader, words, bytes, out);
-        if reader.is_done {
-            return;
+        match answer_block(rt, input, &mut session, words, bytes, kept, out) {
+            Some(rest) => kept = rest,
+            None => return,
         }
     }
 }
 
-// Reads a block behind what is kept, and answers its lines.
+// Reads a block behind what is kept, the start of a line whose end has not been read, and answers its lines. Says how many bytes
+// are kept then, or that the run is over. At the end of the input a last line that lacks its newline is given it.
 fn answer_block(
     rt: &impl Print,
     input: &mut impl Read,
-    reader: Reader,
+    session: &mut Session,
     words: &mut [u64],
     bytes: &mut [u8],
+    kept: usize,
     out: &mut [u8],
-) -> Reader {
-    let session = reader.session;
-    let kept = reader.kept;
+) -> Option<usize> {
     if bytes.len() <= kept {
-        return done();
+        return None;
     }
-    let block = read_block(input, bytes, kept);
-    let size = block.size;
-    let after = answer_lines(rt, session, words, bytes, size, out);
-    if block.is_last {
-        return done();
-    }
-    after
-}
-
-// How many bytes there are to answer, and whether they are the last.
-#[derive(Clone, Copy)]
-struct Block {
-    size: usize,
-    is_last: bool,
-}
-
-// At the end of the input a last line that lacks its newline is given it.
-fn read_block(input: &mut impl Read, bytes: &mut [u8], kept: usize) -> Block
-    requires { kept < length bytes.old }
-    ensures { result.size ≤ length bytes.old }
-{
     let n = read_behind(input, bytes, kept);
     if 0 < n {
-        return Block {
-            size: kept + n,
-            is_last: false,
-        };
+        return answer_lines(rt, session, words, bytes, kept + n, out);
     }
-    if kept == 0 {
-        return Block {
-            size: 0,
-            is_last: true,
-        };
+    if 0 < kept {
+        bytes[kept] = b'\n';
+        answer_lines(rt, session, words, bytes, kept + 1, out);
     }
-    bytes[kept] = b'\n';
-    Block {
-        size: kept + 1,
-        is_last: true,
-    }
+    None
 }
 
 // A read that fails counts as the end of the input.
@@ -133,65 +74,44 @@ fn read_behind(input: &mut impl Read, bytes: &mut [u8], kept: usize) -> usize
     ensures result_in_bounds { kept + result ≤ length bytes.old }
     ensures bytes_unchanged { take kept bytes.new ≡ take kept bytes.old }
 {
-    match input.read(&mut bytes[kept..]) {
-        Ok(n) => n,
-        Err(_) => 0,
-    }
+    input.read(&mut bytes[kept..]).unwrap_or(0)
 }
 
 // Answers the lines of the first bytes, as many of them as there are, and keeps what is left. A write that fails ends the run.
 fn answer_lines(
     rt: &impl Print,
-    session: Session,
+    session: &mut Session,
     words: &mut [u64],
     bytes: &mut [u8],
     size: usize,
     out: &mut [u8],
-) -> Reader
+) -> Option<usize>
     requires { size ≤ length bytes.old }
 {
-    let mut session = session;
     let mut start = 0;
     while start < size {
         let ran = session::run(session, words, &bytes[start..size], out);
-        let read = ran.read;
-        let written = ran.written;
-        session = ran.session;
-        if rt.write_all(&out[..written]).is_err() {
-            return done();
+        rt.write_all(&out[..ran.written]).ok()?;
+        if ran.read == 0 {
+            break;
         }
-        if read == 0 {
-            return keep(session, bytes, start, size);
-        }
-        start += read;
+        start += ran.read;
     }
-    Reader {
-        session,
-        kept: 0,
-        is_done: is_ended(session),
-    }
+    keep(*session, bytes, start, size)
 }
 
 // Moves what is left of the bytes to the start. A line of more than 200 bytes is no form, so that 201 of its bytes are enough.
-fn keep(session: Session, bytes: &mut [u8], start: usize, size: usize) -> Reader
+fn keep(session: Session, bytes: &mut [u8], start: usize, size: usize) -> Option<usize>
     requires { (start ≤ size) × (size ≤ length bytes.old) }
     ensures { Keeps session bytes.old start size bytes.new result }
 {
-    let kept = kept_of(size - start);
-    let mut i = 0;
-    while i < kept {
-        bytes[i] = bytes[start + i];
-        i += 1;
-    }
-    Reader {
-        session,
-        kept,
-        is_done: is_ended(session),
-    }
+    let kept = (size - start).min(201);
+    bytes.copy_within(start..start + kept, 0);
+    (!is_ended(session)).then_some(kept)
 }
 
-fn kept_of(rest: usize) -> usize
-    ensures { result ≡ min rest 201 }
+fn is_ended(session: Session) -> bool
+    ensures { result ≡ is_ended session }
 {
-    if rest < 201 { rest } else { 201 }
+    matches!(session, Session::Ended)
 }

@@ -1,8 +1,8 @@
-use Rattle.forms.proofs.Wholes.{only_ended, only_unended}
+use Rattle.forms.proofs.Wholes.{only_none, only_ended}
 use Rattle.forms.proofs.form.only_number.Goals as goal
 
-pub returns-then-not-ends : goal.returns-then-not-ends
-returns-then-not-ends c = only_unended c.number_after-number.ensures c.ends.ensures c.if-not-ends.true
+pub returns-in_err-number : goal.returns-in_err-number
+returns-in_err-number c = rw c.from_residual.ensures (only_none _ _ _ c.in_err-number.ensures)
 
-pub returns-else-not-ends : goal.returns-else-not-ends
-returns-else-not-ends c = only_ended c.number_after-number.ensures c.ends.ensures c.if-not-ends.false
+pub returns : goal.returns
+returns c = only_ended _ _ _ c.in_ok-number.ensures c.ends.ensures c.then_some.ensures

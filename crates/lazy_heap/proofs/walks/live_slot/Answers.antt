@@ -2,7 +2,7 @@ use mathlib.Core.Path.{◌≡◌, sym, ap, ◌∙◌}
 use Rattle.std.specs.Prelude.{Some, Ok}
 use native.Mathlib.Omega.{arith}
 use Rattle.lazy_heap.proofs.Refilling.{told_slot}
-use borrow.Author.Tests.{eq-eqb, ne_eqb}
+use borrow.Author.Tests.{ne_eqb}
 use Rattle.lazy_heap.proofs.Settling.{slot_nothing, live_none, live_score, live_seq, living_flag, living_none}
 use Rattle.lazy_heap.proofs.walks.live_slot.Goals.{then-r-entry, else-r-entry}
 use Rattle.lazy_heap.proofs.walks.live_slot.Goals as goal

@@ -2,12 +2,9 @@ use mathlib.Core.Path.{◌≡◌, sym, ◌∙◌}
 use Rattle.std.specs.Prelude.{Some, Ok}
 use native.Mathlib.Omega.{arith}
 use Rattle.std.proofs.Common.{rules}
-use Rattle.lazy_heap.proofs.Downward.{descending_start, descending_lost, descending_stop, descending_unseen, descending_on, descending_end}
+use Rattle.lazy_heap.proofs.Downward.{descending_lost, descending_stop, descending_unseen, descending_on, descending_end}
 use Rattle.lazy_heap.proofs.walks.records_valid.Goals.{then-bound-r-via-then-bound-r, then-bound-r-via-else-bound-r+then-times-ne1}
 use Rattle.lazy_heap.proofs.walks.records_valid.Goals as goal
-
-pub loop-init : goal.loop-init
-loop-init c = descending_start _ _ c.first-at.ensures
 
 pub returns-in_default : goal.returns-in_default
 returns-in_default c = descending_lost c.loop.invariant (omega arith) (λ s q. search rules)

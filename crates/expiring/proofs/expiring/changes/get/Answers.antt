@@ -30,6 +30,12 @@ drop_both-requires c =
     let ready = admitted_ready ns (sym c.admitted.ensures ∙ c.in_default.is) in
     ready
 
+pub count_expiration-requires : goal.count_expiration-requires
+count_expiration-requires c =
+    let ns = c.args.numbers.now in
+    let ready = admitted_ready ns (sym c.admitted.ensures ∙ c.in_default.is) in
+    omega (arith, c.drop_both.ensures.0.size, ready.numbers)
+
 pub returns-then-is_expired : goal.returns-then-is_expired
 returns-then-is_expired c =
     let ns = c.args.numbers.now in

@@ -1,9 +1,6 @@
 use mathlib.Core.Path.{sym, ◌∙◌}
-use Rattle.lazy_heap.proofs.Calling.{handed_on, discards_refused, clear_map, clear_call}
+use Rattle.lazy_heap.proofs.Calling.{clear_map, clear_call}
 use Rattle.lazy_heap.proofs.heap.LazyMinHeap.clear.Goals as goal
-
-pub returns-in_err-heap : goal.returns-in_err-heap
-returns-in_err-heap c = rw (handed_on c.from_residual.ensures) (discards_refused (sym c.heap.ensures ∙ c.in_err-heap.was))
 
 pub unwrap-requires : goal.unwrap-requires
 unwrap-requires c = clear_map c.args.self.now (sym c.heap.ensures ∙ c.in_ok-heap.was) c.clear.ensures

@@ -6,4 +6,4 @@ pub returns-then-not-too_many : goal.returns-then-not-too_many
 returns-then-not-too_many c = trimming_same _ _ c.args.factor (sym c.too_many.ensures) c.if-not-too_many.true
 
 pub returns : goal.returns
-returns c = trimming_rebuilt _ _ c.args.factor (sym c.too_many.ensures) c.if-not-too_many.false c.rebuild_within.ensures c.surplus-discarded.ensures
+returns c = trimming_rebuilt _ _ c.args.factor (sym c.too_many.ensures) c.if-not-too_many.false c.rebuild_within.ensures

@@ -6,4 +6,4 @@ pub returns-then-self-lt18446744073709551615 : goal.returns-then-self-lt18446744
 returns-then-self-lt18446744073709551615 c = fitting_same (omega arith) c.if-self-lt18446744073709551615.true
 
 pub returns : goal.returns
-returns c = fitting_renumbered (omega arith) c.if-self-lt18446744073709551615.false c.renumber_within.ensures c.surplus-discarded.ensures
+returns c = fitting_renumbered (omega arith) c.if-self-lt18446744073709551615.false c.renumber_within.ensures

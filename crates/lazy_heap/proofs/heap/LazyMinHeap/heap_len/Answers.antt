@@ -1,11 +1,8 @@
 use mathlib.Core.Path.{sym, ◌∙◌}
 use Rattle.binary_heap.proofs.Laws.{model_length}
 use Rattle.lazy_heap.specs.Words.{part}
-use Rattle.lazy_heap.proofs.Calling.{handed_on, asking_refused, asking_done}
+use Rattle.lazy_heap.proofs.Calling.{asking_done}
 use Rattle.lazy_heap.proofs.heap.LazyMinHeap.heap_len.Goals as goal
-
-pub returns-in_err-heap : goal.returns-in_err-heap
-returns-in_err-heap c = rw (handed_on c.from_residual.ensures) (asking_refused (sym c.heap.ensures ∙ c.in_err-heap.was))
 
 pub returns : goal.returns
 returns c = asking_done (sym c.heap.ensures ∙ c.in_ok-heap.was) (λ is. sym (model_length (part c.args.self.scores.capacity c.args.words.now) c.args.self.entries))

@@ -1,10 +1,7 @@
 use mathlib.Core.Path.{sym, ◌∙◌}
 use Rattle.linked_hash_map.proofs.Putting.{model_length}
-use Rattle.lazy_heap.proofs.Calling.{handed_on, asking_refused, asking_done}
+use Rattle.lazy_heap.proofs.Calling.{asking_done}
 use Rattle.lazy_heap.proofs.heap.LazyMinHeap.len.Goals as goal
-
-pub returns-in_err-heap : goal.returns-in_err-heap
-returns-in_err-heap c = rw (handed_on c.from_residual.ensures) (asking_refused (sym c.heap.ensures ∙ c.in_err-heap.was))
 
 pub returns : goal.returns
 returns c = asking_done (sym c.heap.ensures ∙ c.in_ok-heap.was) (λ is. sym (model_length c.args.words.now c.args.self.scores))

@@ -1,9 +1,6 @@
 use mathlib.Core.Path.{sym, ◌∙◌}
-use Rattle.lazy_heap.proofs.Calling.{handed_on, open_refused, open_map, open_done}
+use Rattle.lazy_heap.proofs.Calling.{open_map, open_done}
 use Rattle.lazy_heap.proofs.heap.LazyMinHeap.open.Goals as goal
-
-pub returns-in_err-heap_with_factor : goal.returns-in_err-heap_with_factor
-returns-in_err-heap_with_factor c = rw (handed_on c.from_residual.ensures) (open_refused (sym c.heap_with_factor.ensures ∙ c.in_err-heap_with_factor.was))
 
 pub unwrap-scores-requires : goal.unwrap-scores-requires
 unwrap-scores-requires c = open_map _ c.args.factor (sym c.heap_with_factor.ensures ∙ c.in_ok-heap_with_factor.was) c.open.ensures

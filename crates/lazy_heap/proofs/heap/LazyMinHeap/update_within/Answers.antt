@@ -1,6 +1,6 @@
 use mathlib.Core.Path.{sym, ◌∙◌}
 use Rattle.lazy_heap.proofs.Calling.{place_some}
-use Rattle.lazy_heap.proofs.Updating.{over_full, place_kept, updating, updating_full}
+use Rattle.lazy_heap.proofs.Updating.{over_full, updating, updating_full}
 use Rattle.lazy_heap.proofs.heap.LazyMinHeap.update_within.Goals as goal
 
 pub unwrap-place-requires : goal.unwrap-place-requires
@@ -8,9 +8,6 @@ unwrap-place-requires c = place_some _ _ _ c.seek.ensures c.requires
 
 pub returns-then-is_over : goal.returns-then-is_over
 returns-then-is_over c = updating_full (λ p. over_full _ _ (sym c.seek.ensures ∙ c.unwrap-place.ensures) p ∙ sym c.is_over.ensures ∙ c.if-is_over.true) c.requires
-
-pub place_after-at-requires-clause-kept : goal.place_after-at-requires-clause-kept
-place_after-at-requires-clause-kept c = place_kept c.args.key c.fit_number-renumbered.ensures (sym c.seek.ensures ∙ c.unwrap-place.ensures)
 
 pub returns : goal.returns
 returns c = let room = c.requires in updating c.fit_number-renumbered.ensures c.hold-answer.ensures c.fit_entries-rebuilt.ensures room (λ p. over_full _ _ (sym c.seek.ensures ∙ c.unwrap-place.ensures) p ∙ sym c.is_over.ensures ∙ c.if-is_over.false) c.saturating_add.ensures

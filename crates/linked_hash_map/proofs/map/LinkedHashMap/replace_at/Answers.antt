@@ -2,7 +2,7 @@ use Rattle.linked_hash_map.proofs.Places.{replacing_unfit, replacing_past, repla
 use Rattle.linked_hash_map.proofs.map.LinkedHashMap.replace_at.Goals as goal
 
 pub returns-in-Ok : goal.returns-in-Ok
-returns-in-Ok c = rw (c.replace.ensures.0, c.replace.ensures.1) (replacing_at _ _ c.in-Ok.ensures.0 _ _ c.if-slot-self.true)
+returns-in-Ok c = rw (c.replace.ensures.record, c.replace.ensures.words) (replacing_at _ _ c.in-Ok.ensures.0 _ _ c.if-slot-self.true)
 
 pub returns-in_default : goal.returns-in_default
 returns-in_default c = replacing_unfit _ _ c.in_default.ensures
