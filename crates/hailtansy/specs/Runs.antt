@@ -5,7 +5,6 @@ use Rattle.lazy_heap_model.specs.Model.{heap_len}
 use Rattle.expiring_model.specs.Model.{Book, Call}
 use Rattle.expiring.specs.Book.{IsBook, heap_of, model_of}
 use Rattle.expiring_model.specs.Lists.{Calls, answers_of, book_at_end}
-use Rattle.replay.specs.declared.answer.Answer as replay
 use Rattle.expiring.specs.Numbers.{book_in}
 use Rattle.replay_expiring.specs.Runs.{Told, told_in, discarded_in, words_of}
 use Rattle.hailtansy.specs.Calls.{Room, tick_of, Called, Looked}
