@@ -19,7 +19,7 @@ use Rattle.expiring.proofs.Runs.{ReadsAs}
 use Rattle.replay.specs.Runs.{with_answer}
 use Rattle.expiring.specs.Numbers.{book_in}
 use Rattle.replay_expiring.specs.Words.{of_answer}
-use Rattle.replay_expiring.specs.Runs.{of_reply, told_in, discarded_in, words_of, Fits, Opens, default_by, outcome_by}
+use Rattle.replay_expiring.specs.Runs.{of_reply, told_of, told_in, discarded_in, words_of, Fits, Opens, default_by, outcome_by, opening_with}
 use Rattle.replay_expiring.proofs.Runs.{told_then, discarded_then}
 use Rattle.replay_expiring.proofs.Steps.{within, Step}
 use Rattle.replay_expiring.proofs.Steps as steps
@@ -28,7 +28,7 @@ use Rattle.hailtansy.specs.Runs.{Series, none, call, look, told_in_all, discarde
 
 -- ---- one call, with its answer written
 record Written (t : ℕ) (c : Call) (ws : List ℕ) (b : Expiring) (p : Book) (out₁ ws₁ : List ℕ) (b₁ : Expiring) : Type 0 where
-  answer : told_in out₁ 1 ≡ of_answer (answer_of (tick_of t) c p) 0 ∷ []
+  answer : told_in out₁ 1 ≡ told_of (of_answer (answer_of (tick_of t) c p) 0) ∷ []
   model : ReadsAs ws₁ b₁ (book_after (tick_of t) c p)
   book : IsBook ws₁ b₁
   sum : discarded_in out₁ 1 + heap_len (heap_of ws₁ b₁) + counted p ≡ heap_len (heap_of ws b) + counted (book_after (tick_of t) c p)
@@ -37,7 +37,7 @@ module _ {ws : List ℕ} (out : List ℕ) {b : Expiring} {t : ℕ} {c : Call} {p
   written : {ws₁ : List ℕ} {b₁ : Expiring} (r : Reply) → Step (tick_of t) c ws b p r.answer r.discarded ws₁ b₁ → Written t c ws b p (with_answer out 0 (of_reply r)) ws₁ b₁
   unfolding told_in discarded_in
   written r s = record {
-    answer = told_then out 0 r.answer r.discarded room ∙ ap (λ (a : Answer). of_answer a 0 ∷ []) s.answer;
+    answer = told_then out 0 r.answer r.discarded room ∙ ap (λ (a : Answer). told_of (of_answer a 0) ∷ []) s.answer;
     model = s.model;
     book = s.book;
     sum = omega (arith, s.sum, discarded_then out 0 r.answer r.discarded room);
@@ -74,12 +74,13 @@ came p is e h (look {out = out} {t = t} {c = c} room k rest) =
 -- ---- demand 3: calls one by one on what an opening left
 pub as_the_plain_book : {ns ws how said ns₁ ws₁ said₁ ns' ws' : List ℕ} {n : ℕ} {cs : Calls} {outs : List (List ℕ)} → Fits ns how said → Opens ns ws how said ns₁ ws₁ said₁ n → outcome_by how ws ≡ Ok tt → Series ns₁ ws₁ cs outs ns' ws' → AsThePlainBook (fresh (get_or how 0 0) (get_or how 1 0) (default_of (default_by how))) cs outs ns' ws'
 unfolding fresh opened
-as_the_plain_book {how = how} fits opens done series =
+as_the_plain_book {ws = ws} {how = how} {ns₁ = ns₁} fits opens done series =
     let o = opens.opened fits in
-    let f = came (fresh (get_or how 0 0) (get_or how 1 0) (default_of (default_by how))) (o.book done) (o.model done) (omega arith) series in
+    let is : opening_with (outcome_by how ws) (book_in ns₁) ≡ Ok (book_in ns₁) = rw done refl in
+    let f = came (fresh (get_or how 0 0) (get_or how 1 0) (default_of (default_by how))) (o.book (book_in ns₁) is) (o.model (book_in ns₁) is) (omega arith) series in
     record {
       answers = f.answers;
       model = f.model;
       book = f.book;
-      sum = omega (arith, f.sum, ap heap_len (o.heap done));
+      sum = omega (arith, f.sum, ap heap_len (o.heap (book_in ns₁) is));
     }

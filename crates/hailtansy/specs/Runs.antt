@@ -5,9 +5,8 @@ use Rattle.lazy_heap_model.specs.Model.{heap_len}
 use Rattle.expiring_model.specs.Model.{Book, Call}
 use Rattle.expiring.specs.Book.{IsBook, heap_of, model_of}
 use Rattle.expiring_model.specs.Lists.{Calls, answers_of, book_at_end}
-use Rattle.replay.specs.declared.answer.Answer as replay
 use Rattle.expiring.specs.Numbers.{book_in}
-use Rattle.replay_expiring.specs.Runs.{told_in, discarded_in, words_of}
+use Rattle.replay_expiring.specs.Runs.{Told, told_in, discarded_in, words_of}
 use Rattle.hailtansy.specs.Calls.{Room, tick_of, Called, Looked}
 
 -- calls from the numbers ns and the words ws on, each on what the one before left, with the answers as they were written
@@ -17,7 +16,7 @@ pub data Series : List ℕ → List ℕ → Calls → List (List ℕ) → List �
   look : {ns ws out out₁ ns' ws' : List ℕ} {t k : ℕ} {c : Call} {cs : Calls} {outs : List (List ℕ)} → Room ns out → Looked ns ws t c out out₁ k → Series ns ws cs outs ns' ws' → Series ns ws ((tick_of t, c) ∷ cs) (out₁ ∷ outs) ns' ws'
 
 -- the answers but for how many entries they say were discarded, and the total of these
-unfoldable pub told_in_all : List (List ℕ) → List replay.Answer
+unfoldable pub told_in_all : List (List ℕ) → List Told
 told_in_all [] = []
 told_in_all (out ∷ outs) = told_in out 1 ++ told_in_all outs
 

@@ -25,12 +25,12 @@ use Rattle.expiring_model.specs.Lists.{Calls, answers_of, book_at_end}
 use Rattle.expiring.proofs.Accounts.{counted}
 use Rattle.expiring.proofs.Runs.{ReadsAs}
 use Rattle.replay.specs.declared.answer.Answer as replay
-use Rattle.replay.specs.Answers.{words}
+use Rattle.replay.specs.Answers.{number_of}
 use Rattle.replay.specs.Runs.{with_answer}
 use Rattle.replay_expiring.specs.declared.call.Asked.{Asked}
 use Rattle.replay_expiring.specs.Words.{changing, asked_at, call_of, call_in, of_answer}
 use Rattle.expiring.specs.Numbers.{book_in}
-use Rattle.replay_expiring.specs.Runs.{of_reply, Turn, changed, looked, Run, none, more, Replayed, Fits, default_by, outcome_by, Opens, calls_in, told_in, discarded_in, words_of, AsThePlainBook}
+use Rattle.replay_expiring.specs.Runs.{of_reply, Turn, changed, looked, Run, none, more, Replayed, Fits, default_by, outcome_by, opening_with, Opens, calls_in, Told, told_of, told_in, discarded_in, words_of, AsThePlainBook}
 use Rattle.replay_expiring.proofs.Laws.{changed_stored, changed_past}
 use Rattle.expiring.proofs.Storing.{changed_size}
 use Rattle.replay_expiring.proofs.Steps.{Look, at_contains, at_peek, at_ttl_status, at_recency_rank, at_live_len, at_expirations, at_peek_lru, model_stays, heap_stays, within, Step}
@@ -51,30 +51,30 @@ before out i j a h =
     simp get_or-set_other
 
 module _ (out : List ℕ) (i : ℕ) (a : replay.Answer) (h : 4 * i + 4 ≤ length out) where
-  code_at : get_or (with_answer out i a) (4 * i) 0 ≡ a.code
+  code_at : get_or (with_answer out i a) (4 * i) 0 ≡ number_of a.code
   unfolding with_answer
   code_at =
       let n1 : 4 * i ≢ 4 * i + 1 = omega arith in
       let n2 : 4 * i ≢ 4 * i + 2 = omega arith in
       let n3 : 4 * i ≢ 4 * i + 3 = omega arith in
-      simp get_or-set_other (get_or-set_same out (4 * i) a.code 0 (omega arith))
+      simp get_or-set_other (get_or-set_same out (4 * i) (number_of a.code) 0 (omega arith))
 
   first_at : get_or (with_answer out i a) (4 * i + 1) 0 ≡ a.first
   unfolding with_answer
   first_at =
       let n2 : 4 * i + 1 ≢ 4 * i + 2 = omega arith in
       let n3 : 4 * i + 1 ≢ 4 * i + 3 = omega arith in
-      simp get_or-set_other (get_or-set_same (set out (4 * i) a.code) (4 * i + 1) a.first 0 (simp length-set (omega arith)))
+      simp get_or-set_other (get_or-set_same (set out (4 * i) (number_of a.code)) (4 * i + 1) a.first 0 (simp length-set (omega arith)))
 
   second_at : get_or (with_answer out i a) (4 * i + 2) 0 ≡ a.second
   unfolding with_answer
   second_at =
       let n3 : 4 * i + 2 ≢ 4 * i + 3 = omega arith in
-      simp get_or-set_other (get_or-set_same (set (set out (4 * i) a.code) (4 * i + 1) a.first) (4 * i + 2) a.second 0 (simp length-set (omega arith)))
+      simp get_or-set_other (get_or-set_same (set (set out (4 * i) (number_of a.code)) (4 * i + 1) a.first) (4 * i + 2) a.second 0 (simp length-set (omega arith)))
 
   third_at : get_or (with_answer out i a) (4 * i + 3) 0 ≡ a.third
   unfolding with_answer
-  third_at = get_or-set_same (set (set (set out (4 * i) a.code) (4 * i + 1) a.first) (4 * i + 2) a.second) (4 * i + 3) a.third 0 (simp length-set (omega arith))
+  third_at = get_or-set_same (set (set (set out (4 * i) (number_of a.code)) (4 * i + 1) a.first) (4 * i + 2) a.second) (4 * i + 3) a.third 0 (simp length-set (omega arith))
 
 -- ---- the answers before it
 told_kept : (out : List ℕ) (i k : ℕ) (a : replay.Answer) → k ≤ i → told_in (with_answer out i a) k ≡ told_in out k
@@ -88,27 +88,27 @@ discarded_kept out i zero a h = refl
 discarded_kept out i (suc k) a h = rw (discarded_kept out i k a (omega arith), before out i (4 * k + 3) a (omega arith)) refl
 
 -- ---- one answer more
-words_then : (l : List Answer) (a : Answer) → words_of (l ++ (a ∷ [])) ≡ words_of l ++ (of_answer a 0 ∷ [])
+words_then : (l : List Answer) (a : Answer) → words_of (l ++ (a ∷ [])) ≡ words_of l ++ (told_of (of_answer a 0) ∷ [])
 unfolding words_of
 words_then [] a = refl
-words_then (x ∷ l) a = ap (λ (z : List replay.Answer). of_answer x 0 ∷ z) (words_then l a)
+words_then (x ∷ l) a = ap (λ (z : List Told). told_of (of_answer x 0) ∷ z) (words_then l a)
 
 -- an answer's words but for the last do not depend on it
-told_of : (a : Answer) (d : ℕ) → words (of_answer a d).code (of_answer a d).first (of_answer a d).second 0 ≡ of_answer a 0
-told_of answer.Nothing d = refl
-told_of (answer.Value v) d = refl
-told_of answer.Yes d = refl
-told_of answer.No d = refl
-told_of answer.Missing d = refl
-told_of answer.Immortal d = refl
-told_of answer.Expired d = refl
-told_of (answer.Live l t) d = refl
-told_of (answer.Count n) d = refl
-told_of (answer.Due k t) d = refl
-told_of (answer.Item k v) d = refl
-told_of (answer.Rank n) d = refl
-told_of answer.Done d = refl
-told_of (answer.Refused why) d = refl
+told_alike : (a : Answer) (d : ℕ) → told_of (of_answer a d) ≡ told_of (of_answer a 0)
+told_alike answer.Nothing d = refl
+told_alike (answer.Value v) d = refl
+told_alike answer.Yes d = refl
+told_alike answer.No d = refl
+told_alike answer.Missing d = refl
+told_alike answer.Immortal d = refl
+told_alike answer.Expired d = refl
+told_alike (answer.Live l t) d = refl
+told_alike (answer.Count n) d = refl
+told_alike (answer.Due k t) d = refl
+told_alike (answer.Item k v) d = refl
+told_alike (answer.Rank n) d = refl
+told_alike answer.Done d = refl
+told_alike (answer.Refused why) d = refl
 
 third_of : (a : Answer) (d : ℕ) → (of_answer a d).third ≡ d
 third_of answer.Nothing d = refl
@@ -127,9 +127,9 @@ third_of answer.Done d = refl
 third_of (answer.Refused why) d = refl
 
 module _ (out : List ℕ) (k : ℕ) (a : Answer) (d : ℕ) (h : 4 * k + 4 ≤ length out) where
-  pub told_then : told_in (with_answer out k (of_answer a d)) (suc k) ≡ told_in out k ++ (of_answer a 0 ∷ [])
+  pub told_then : told_in (with_answer out k (of_answer a d)) (suc k) ≡ told_in out k ++ (told_of (of_answer a 0) ∷ [])
   unfolding told_in
-  told_then = rw (told_kept out k k (of_answer a d) (omega arith), code_at out k (of_answer a d) h, first_at out k (of_answer a d) h, second_at out k (of_answer a d) h, told_of a d) refl
+  told_then = rw (told_kept out k k (of_answer a d) (omega arith), code_at out k (of_answer a d) h, first_at out k (of_answer a d) h, second_at out k (of_answer a d) h) (ap (λ (z : Told). told_in out k ++ (z ∷ [])) (told_alike a d))
 
   pub discarded_then : discarded_in (with_answer out k (of_answer a d)) (suc k) ≡ discarded_in out k + d
   unfolding discarded_in
@@ -215,13 +215,14 @@ run_past (more run t) j h = turn_past t j h ∙ run_past run j h
 -- ---- demand 3: calls from outside on what an opening from outside left
 pub as_the_plain_book : {ns ws how said ns₁ ws₁ said₁ cs out ns' ws' out' : List ℕ} {n k : ℕ} → Fits ns how said → Opens ns ws how said ns₁ ws₁ said₁ n → outcome_by how ws ≡ Ok tt → Replayed ns₁ ws₁ cs out ns' ws' out' k → AsThePlainBook (fresh (get_or how 0 0) (get_or how 1 0) (default_of (default_by how))) cs k ns' ws' out'
 unfolding fresh opened
-as_the_plain_book {how = how} {ns₁ = ns₁} fits opens done ran =
+as_the_plain_book {ws = ws} {how = how} {ns₁ = ns₁} fits opens done ran =
     let enough : 12 ≤ length ns₁ = omega (arith, opens.size, fits.numbers) in
     let o = opens.opened fits in
-    let f = came (fresh (get_or how 0 0) (get_or how 1 0) (default_of (default_by how))) enough (o.book done) (o.model done) (omega arith) (ran.run enough) (omega (arith, (ran.ended enough).within)) in
+    let is : opening_with (outcome_by how ws) (book_in ns₁) ≡ Ok (book_in ns₁) = rw done refl in
+    let f = came (fresh (get_or how 0 0) (get_or how 1 0) (default_of (default_by how))) enough (o.book (book_in ns₁) is) (o.model (book_in ns₁) is) (omega arith) (ran.run enough) (omega (arith, (ran.ended enough).within)) in
     record {
       answers = f.answers;
       model = f.model;
       book = f.book;
-      sum = omega (arith, f.sum, ap heap_len (o.heap done));
+      sum = omega (arith, f.sum, ap heap_len (o.heap (book_in ns₁) is));
     }

@@ -11,7 +11,7 @@ use Rattle.expiring.specs.Book.{IsBook, heap_of, model_of}
 use Rattle.expiring.specs.Calls.{no_book, Following, Opening, opening_of}
 use Rattle.expiring_model.specs.Lists.{Calls, answers_of, book_at_end}
 use Rattle.replay.specs.declared.answer.Answer as replay
-use Rattle.replay.specs.Answers.{words}
+use Rattle.replay.specs.Answers.{number_of}
 use Rattle.replay.specs.Runs.{with_answer}
 use Rattle.expiring.specs.Numbers.{book_in, with_changed}
 use Rattle.replay_expiring.specs.declared.call.Asked.{Asked}
@@ -90,18 +90,27 @@ unfoldable pub calls_in : List ℕ → ℕ → Calls
 calls_in cs zero = []
 calls_in cs (suc k) = calls_in cs k ++ (((asked_at cs k).tick, call_in (asked_at cs k)) ∷ [])
 
--- the first k answers but for how many entries they say were discarded, and the total of these
-unfoldable pub told_in : List ℕ → ℕ → List replay.Answer
+-- an answer's words, but for how many entries it says were discarded
+pub record Told : Type 0 where
+  pub code : ℕ
+  pub first : ℕ
+  pub second : ℕ
+
+abbrev pub told_of : replay.Answer → Told
+told_of a = record { code = number_of a.code; first = a.first; second = a.second }
+
+-- the first k answers so, and the total of the entries discarded
+unfoldable pub told_in : List ℕ → ℕ → List Told
 told_in out zero = []
-told_in out (suc k) = told_in out k ++ (words (get_or out (4 * k) 0) (get_or out (4 * k + 1) 0) (get_or out (4 * k + 2) 0) 0 ∷ [])
+told_in out (suc k) = told_in out k ++ (record { code = get_or out (4 * k) 0; first = get_or out (4 * k + 1) 0; second = get_or out (4 * k + 2) 0 } ∷ [])
 
 unfoldable pub discarded_in : List ℕ → ℕ → ℕ
 discarded_in out zero = 0
 discarded_in out (suc k) = discarded_in out k + get_or out (4 * k + 3) 0
 
-unfoldable pub words_of : List Answer → List replay.Answer
+unfoldable pub words_of : List Answer → List Told
 words_of [] = []
-words_of (a ∷ l) = of_answer a 0 ∷ words_of l
+words_of (a ∷ l) = told_of (of_answer a 0) ∷ words_of l
 
 -- k calls in the words cs, from a book that stands for p to the numbers ns and the words ws, with their answers in out
 pub record AsThePlainBook (p : Book) (cs : List ℕ) (k : ℕ) (ns ws out : List ℕ) : Type 0 where
