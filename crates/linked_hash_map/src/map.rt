@@ -108,8 +108,7 @@ fn replace(words: &mut [u64], n: usize, slot: usize, item: Record) -> Record
     old
 }
 
-// Enters the live records anew, front first. It is rare, and its loop is kept out of the insertion's way.
-#[cold]
+// Enters the live records anew, front first.
 #[tactic(auto, unfolding(crate::specs::Words::refilled), using(crate::proofs::Steps::entering))]
 fn refill(words: &mut [u64], n: usize, len: usize)
     requires { Room (length words.old) n }
@@ -306,7 +305,6 @@ impl LinkedHashMap {
     }
 
     // Counts the insertions, and now and then enters the records in the cells anew.
-    #[inline]
     fn count_insertion(&mut self, words: &mut [u64])
         requires { Room (length words.old) self.old.capacity }
         ensures { Grown words.old self.old self.old.len words.new self.new }
