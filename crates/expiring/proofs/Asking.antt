@@ -1,15 +1,13 @@
 -- What stands in the words, as the layers below tell it.
 use mathlib.Core.Path.{◌≡◌, sym, ◌∙◌}
-use mathlib.Core.Bool.{Bool, false}
+use mathlib.Core.Bool.{Bool}
 use mathlib.Core.List.{List}
 use Prim.Native.Nat.{ℕ}
 use lib.ListN.{length}
 use Rattle.std.specs.Prelude.{Option, Some, None, Result, Ok, Err}
-use Rattle.std.specs.Result.{result_unwrap_or}
 use Rattle.limits.specs.Limits.{book_limits}
 use Rattle.time.specs.declared.tick.Tick.{Tick}
 use Rattle.time.specs.declared.refusal.Refusal.{Refusal}
-use Rattle.fast_lru.specs.Calls as lru
 use Rattle.expiration_index.specs.Model.{Pair, deadline_in, deadline_of}
 use Rattle.expiration_index.specs.Model as pairs
 use Rattle.expiration_index.specs.Calls as calls
@@ -18,10 +16,9 @@ use Rattle.expiring_model.specs.Model.{has_come}
 use Rattle.expiring.specs.Book.{Room, capacity_of, limit_of, rest, model_of}
 use Rattle.expiring.specs.Calls.{Counting, DeadlinesHeld, HeapLength}
 use Rattle.expiring_answers.specs.Answers.{come_by}
-use Rattle.expiring.specs.Steps.{deadlines_of, DeadlineOf, Expired, Stored, StoredCount, ExpiredCount}
+use Rattle.expiring.specs.Steps.{deadlines_of, DeadlineOf, Expired, ExpiredCount}
 use Rattle.expiring.proofs.Limits.{same_value, room_limits, no_book_lem}
 use Rattle.expiring.proofs.Moving.{rest_limits}
-use Rattle.expiring.proofs.Valuing.{said_asking}
 
 -- ---- deadlines
 module _ {ws : List ℕ} {b : Expiring} where
@@ -49,14 +46,6 @@ module _ {ws : List ℕ} {b : Expiring} {k : ℕ} {d : Option Tick} (t : Tick) (
   pub expired_by_lem : {r : Bool} → r ≡ come_by d t → Expired ws b t k r
   unfolding deadline_of
   expired_by_lem e = record { answer = λ o. e ∙ come t (pairs.lookup k (deadlines_of ws b)) d (a.answer o) }
-
--- ---- values
-module _ {ws : List ℕ} {b : Expiring} where
-  pub stored_told : {k : ℕ} {r : Result Bool Refusal} → lru.Containing ws b.inner k r → Stored ws b k (result_unwrap_or r false)
-  stored_told a = record { answer = λ o. said_asking a false o }
-
-  pub stored_counted : {r : Result ℕ Refusal} → lru.Length ws b.inner r → StoredCount ws b (result_unwrap_or r 0)
-  stored_counted a = record { answer = λ o. said_asking a 0 o }
 
 -- a refused count
 pub counted_none : {ws : List ℕ} {b : Expiring} {n : ℕ} {why : Refusal} → book_limits (capacity_of b) (limit_of b) (length ws) ≡ Err why → Counting ws b n (Err why)

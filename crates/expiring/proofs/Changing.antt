@@ -69,9 +69,6 @@ module _ {ns : List ℕ} (x : Option ℕ) (old : Option Tick) (t : Tick) where
   pub concluding_expired : 12 ≤ length ns → come_by old t ≡ true → Concluding ns x old t (with_expiration ns) answers.Nothing
   concluding_expired h e = record { stay = stay_expiration ns; reply = λ d. rw e (ap (λ (b : Expiring). record { book = b; answer = answers.Nothing; discarded = d }) (expiration_stored ns h)) }
 
-  pub concluding_found : {a : Answer} → come_by old t ≡ false → a ≡ of_found x → Concluding ns x old t ns a
-  concluding_found e q = record { stay = stay_same ns; reply = λ d. rw (e, q) refl }
-
 -- ---- first the deadline, then the value, and then what the call comes to
 module _ (ns : List ℕ) {ns₁ ns₂ ns₃ ws ws₁ ws₂ : List ℕ} {ch : Change} {d k : ℕ} {old : Option Tick} {x : Option ℕ} {t : Tick} {a : Answer} (move : Moved ws (book_in ns) ch same ws₁ (book_in ns₁) d) (free : IsBook ws (book_in ns) → beyond ch ws (book_in ns) ≡ false) (held : DeadlineOf ws (book_in ns) k old) (word : get_or ns 11 0 < 2 ^ 64) (done : Concluding ns₂ x old t ns₃ a) where
   pub concludes : {f : Items → Items} → Valuing ns₁ ws₁ k f ns₂ ws₂ x → Acting ws (book_in ns) ch (f (stored_of ws (book_in ns))) (cond (expired_in ws (book_in ns) t k) 1 0) (unless (expired_in ws (book_in ns) t k) (value_of ws (book_in ns) k)) ws₂ (reply_in ns₃ (record { answer = a; discarded = d }))
