@@ -33,5 +33,8 @@ pub fn of_rank(rank: Option<usize>) -> Answer
 pub fn of_due(pair: Option<(u64, Tick)>) -> Answer
     ensures { result ≡ of_due pair }
 {
-    pair.map_or(Answer::Nothing, |(key, deadline)| Answer::Due(key, deadline))
+    pair.map_or(
+        Answer::Nothing,
+        |(key, deadline)| Answer::Due(key, deadline),
+    )
 }
