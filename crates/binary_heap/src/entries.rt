@@ -1,4 +1,6 @@
-// Entries in words.
+// Entries in words. One is told by its place, since the memory is words of the caller's, with no Entry to point to.
+// (`get` and `put` look like the map's `read_record` and `write_record`: other fields, three words apart and not five,
+// and a function for both would be no plainer.)
 ghost use Rattle.std.specs.Prelude.{◌≡◌, ◌+◌, ◌*◌, leb, length};
 ghost use Rattle.binary_heap.specs.Order.{le};
 ghost use Rattle.binary_heap.specs.Entries.{entry_at, put_at, swap_at, Holds};
@@ -10,7 +12,7 @@ pub struct Entry {
     pub key: u64,
 }
 
-// Entry i.
+// Entry i: three words at a place, which no `From` would take.
 pub fn get(words: &[u64], i: usize) -> Entry
     requires { Holds (length words.now) i }
     ensures { result ≡ entry_at words.now i }

@@ -1,4 +1,5 @@
-// The heap's calls.
+// The heap's calls. They answer no `Result`, since they never fail: where the words do not fit, `push` and
+// `is_heap` answer false, `peek` and `pop` nothing, `entry_at` zeros, and `count_at_most` 0.
 ghost use Rattle.std.specs.Prelude.{◌≡◌, ◌+◌};
 ghost use Rattle.binary_heap.specs.Heap.{fit};
 ghost use Rattle.binary_heap.specs.Calls.{Pushing, Peeking, Popping, Reading, Counting, Checking};

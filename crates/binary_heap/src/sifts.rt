@@ -1,4 +1,5 @@
-// An entry moves to its level, one level a call. A level's work is a swap.
+// An entry moves to its level, one level a call. A level's work is a swap. The length comes beside the words, since
+// it is one of the caller's numbers (lib.rt).
 ghost use Rattle.std.specs.Prelude.{◌≡◌, false, not, ◌+◌, ◌*◌, ◌≤◌, ◌<◌, length};
 ghost use Rattle.binary_heap.specs.Order.{le};
 ghost use Rattle.binary_heap.specs.Entries.{Holds, entry_at};
@@ -8,14 +9,12 @@ ghost use Rattle.binary_heap.specs.Sifts.{Rises, Sinks, child_of};
 use crate::entries;
 
 // Whether entry i has a parent that is after it.
+#[tactic(auto, using(crate::proofs::Rising::root_in_order))]
 fn rises(words: &[u64], i: usize) -> bool
     requires { Holds (length words.now) i }
     ensures { result ≡ not (le (entry_at words.now (parent i)) (entry_at words.now i)) }
 {
-    if i == 0 {
-        return false;
-    }
-    !entries::in_order(words, (i - 1) / 2, i)
+    i != 0 && !entries::in_order(words, (i - 1) / 2, i)
 }
 
 // Entry i goes up while its parent is after it.
@@ -41,19 +40,18 @@ fn climb(words: &mut [u64], i: usize)
 }
 
 // The child of entry i, which has one, that is not after the other.
+#[tactic(auto, unfolding(crate::specs::Sifts::child_of))]
 fn child(words: &[u64], len: usize, i: usize) -> usize
     requires { Room (length words.now) len × (2 * i + 1 < len) }
     ensures { result ≡ child_of words.now len i }
 {
     let left = 2 * i + 1;
     let right = 2 * i + 2;
-    if len <= right {
-        return left;
+    if len <= right || entries::in_order(words, left, right) {
+        left
+    } else {
+        right
     }
-    if entries::in_order(words, left, right) {
-        return left;
-    }
-    right
 }
 
 // Entry i goes down while it is after a child.

@@ -5,7 +5,7 @@
 // word. A cell is 0 if it was never used, i + 1 for record i, and anything else for a record that is gone.
 #![tactic(auto)]
 
-// Where the probe of a key ended.
+// Where the probe of a key ended. Of its three ends two lead to different places, which no `Option` says.
 #[derive(Clone, Copy)]
 pub enum Probe {
     // At a cell, and the record that it holds has the key.

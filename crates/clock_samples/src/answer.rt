@@ -8,7 +8,6 @@ pub enum Answer {
     Ticks(u64),
     Told(bool),
     Expired,
-    Refused(Refusal),
     // The answer is the lent clock's; where the two differ, it says so.
     Stepped { lent: Step, by_value: Step },
 }
@@ -21,17 +20,13 @@ pub struct Step {
 }
 
 impl Answer {
-    pub fn to(question: Question, clock: &mut MockClock) -> Answer {
-        match question {
-            Question::Ticks(d) => match duration_to_ticks(d) {
-                Ok(ttl) => Answer::Ticks(ttl.0),
-                Err(why) => Answer::Refused(why),
-            },
+    pub(crate) fn to(question: Question, clock: &mut MockClock) -> Result<Answer, Refusal> {
+        let answer = match question {
+            Question::Ticks(d) => Answer::Ticks(duration_to_ticks(d)?.0),
             Question::Zero(d) => Answer::Told(d.is_zero()),
-            Question::Deadline(start, d) => match duration_to_ticks(d) {
-                Ok(ttl) => Answer::Ticks(start.deadline_from(ttl).as_u64()),
-                Err(why) => Answer::Refused(why),
-            },
+            Question::Deadline(start, d) => {
+                Answer::Ticks(start.deadline_from(duration_to_ticks(d)?).as_u64())
+            }
             Question::Remaining(deadline, tick) => match deadline.remaining_at(tick) {
                 Some(ttl) => Answer::Ticks(ttl.0),
                 None => Answer::Expired,
@@ -57,7 +52,8 @@ impl Answer {
                 };
                 Answer::Stepped { lent, by_value }
             }
-        }
+        };
+        Ok(answer)
     }
 }
 
@@ -84,7 +80,6 @@ impl fmt::Display for Answer {
             Answer::Told(true) => write!(f, "yes"),
             Answer::Told(false) => write!(f, "no"),
             Answer::Expired => write!(f, "expired"),
-            Answer::Refused(why) => write!(f, "refused {}", why.number()),
             Answer::Stepped { lent, by_value } => {
                 write!(f, "{lent}")?;
                 if by_value.tick != lent.tick {

@@ -15,14 +15,14 @@ pub struct Line {
 }
 
 impl Line {
-    pub fn new() -> Line {
+    pub(crate) fn new() -> Line {
         Line {
             text: [0; KEPT],
             length: 0,
         }
     }
 
-    pub fn push(&mut self, byte: u8) {
+    pub(crate) fn push(&mut self, byte: u8) {
         if self.length < KEPT {
             self.text[self.length] = byte;
             self.length += 1;
@@ -30,12 +30,12 @@ impl Line {
     }
 
     // As much as is written back.
-    pub fn shown(&self) -> &[u8] {
+    pub(crate) fn shown(&self) -> &[u8] {
         &self.text[..self.length.min(LONGEST)]
     }
 
     // All of it, if it is no longer than a question may be.
-    pub fn whole(&self) -> Option<&[u8]> {
+    pub(crate) fn whole(&self) -> Option<&[u8]> {
         if LONGEST < self.length {
             return None;
         }

@@ -1,4 +1,5 @@
-// Answers questions about durations, deadlines and a clock, one on a line of standard input, from the proved crate `time`:
+// Answers questions about durations, deadlines and a clock, one on a line of standard input, from the proved
+// crate `time`:
 //
 //     ticks SECS NANOS            the ticks of a duration
 //     zero SECS NANOS             whether it is exactly zero
@@ -9,9 +10,9 @@
 //     advance SECS NANOS
 //
 // A clock's step is taken by value and by the lent form, and where they differ the answer says so.
-// A question is named by its first letter alone. Its line is written back with ` = ` and the answer; a line that starts
-// with `#` is written back as it is. Nothing here is part of what is proved of the cache: it is how a person, and the
-// recorded answers of the Rust, reach the crate.
+// A question is named by its first letter alone. Its line is written back with ` = ` and the answer; a line that
+// starts with `#` is written back as it is. Nothing here is part of what is proved of the cache: it is how a
+// person, and the recorded answers of the Rust, reach the crate.
 #![tactic(auto)]
 
 mod answer;
@@ -33,10 +34,10 @@ fn answer_line(rt: &impl Print, line: &Line, clock: &mut MockClock) -> io::Resul
         return rt.write_all(b"\n");
     }
     match line.whole().and_then(Question::of) {
-        Some(question) => {
-            let answer = Answer::to(question, clock);
-            println!(rt; " = {answer}")
-        }
+        Some(question) => match Answer::to(question, clock) {
+            Ok(answer) => println!(rt; " = {answer}"),
+            Err(why) => println!(rt; " = refused {}", why.number()),
+        },
         None => rt.write_all(b" = no question\n"),
     }
 }

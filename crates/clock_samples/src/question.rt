@@ -13,9 +13,10 @@ pub enum Question {
 }
 
 impl Question {
-    pub fn of(line: &[u8]) -> Option<Question> {
+    pub(crate) fn of(line: &[u8]) -> Option<Question> {
         let letter = *line.first()?;
         let [a, b, c] = numbers(line)?;
+        // The letter comes from outside, and the table has to stand somewhere.
         match letter {
             b't' => Some(Question::Ticks(Duration::of(a, b))),
             b'z' => Some(Question::Zero(Duration::of(a, b))),
@@ -40,14 +41,10 @@ fn numbers(line: &[u8]) -> Option<[u64; 3]> {
 }
 
 fn with_digits(number: u64, digits: &[u8]) -> Option<u64> {
-    digits
-        .iter()
-        .try_fold(number, |n, byte| with_digit(n, *byte))
-}
-
-fn with_digit(number: u64, byte: u8) -> Option<u64> {
-    if !byte.is_ascii_digit() {
-        return None;
-    }
-    number.checked_mul(10)?.checked_add(u64::from(byte - b'0'))
+    digits.iter().try_fold(number, |n, byte| {
+        if !byte.is_ascii_digit() {
+            return None;
+        }
+        text::with_digit(n, u64::from(byte - b'0'))
+    })
 }

@@ -13,11 +13,11 @@ pub struct ExpirationIndex {
     pub heap: LazyMinHeap,
 }
 
-// A key's score is its deadline.
+// A key's score is its deadline. (No `From` here and in `due_in`: it would stand away from the definition.)
 fn deadline_in(score: Option<u64>) -> Option<Tick>
     ensures { result ≡ deadline_in score }
 {
-    score.map(|deadline| Tick(deadline))
+    score.map(Tick)
 }
 
 // The best is the next due.
@@ -91,7 +91,7 @@ impl ExpirationIndex {
     ) -> Result<Counted<Option<Tick>>, Refusal>
         ensures { Setting words.old self.old key deadline words.new self.new result }
     {
-        // Read so that the contract may say that the next sequence number is a word.
+        // Read for the proof alone: the contract says that this number is a word, and of a lent one a read tells it.
         let _seq = self.heap.seq;
         self.heap
             .update(words, key, deadline.0)

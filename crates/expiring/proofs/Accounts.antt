@@ -1,5 +1,5 @@
--- What a call discards and what it leaves is what there was and what it pushed: entries on the one side, pairs held, replaced
--- and removed on the other.
+-- What a call discards and what it leaves is what there was and what it pushed: entries on the one side, pairs
+-- held, replaced and removed on the other.
 use mathlib.Core.Path.{◌≡◌, refl, sym, ap, ◌∙◌, subst}
 use mathlib.Core.Bool.{Bool, true, false, cond, ◌||◌}
 use mathlib.Core.List.{List, [], ◌∷◌}

@@ -11,7 +11,8 @@ use Rattle.time.specs.declared.tick.Tick.{Tick}
 use Rattle.time.specs.declared.refusal.Refusal.{Refusal}
 use Rattle.time.specs.declared.refusal.Refusal.TheVariants.{InvalidNanos, KeyLimitReached}
 use Rattle.time.specs.declared.duration.TtlTicks.{TtlTicks}
-use Rattle.std.specs.Prelude.{Option, Ok, Err}
+use Rattle.std.specs.Prelude.{Option, Result, Ok, Err, IsErr, IsErrAnd, ⊤}
+use Rattle.lazy_heap_model.specs.declared.counted.Counted.{Counted}
 use Rattle.lazy_heap_model.specs.Model.{Heap}
 use Rattle.fast_lru_model.specs.Model.{Items}
 use Rattle.expiration_index.specs.Model.{Pairs}
@@ -22,8 +23,9 @@ use Rattle.expiring.specs.declared.expiring.Expiring.{Expiring}
 use Rattle.expiring_model.specs.Model.{Book, Call, Change, keep, set, drop, drop_expired, drop_all, look, change_of, pairs_after, stored_after, expired_by, answered, bad_nanos, sets_beyond, refusal_of, accepted, answer_of, book_after}
 use Rattle.expiring_model.specs.Discards.{discards, heap_after, discarded_by, heap_by}
 use Rattle.expiring.specs.Book.{capacity_of, limit_of, IsBook, heap_of, model_of}
-use Rattle.expiring.specs.Calls.{cause_of, Following}
+use Rattle.expiring.specs.Calls.{cause_of, Following, Looking, Updating}
 use Rattle.expiring.specs.Steps.{with_expired, replying, stored_of, deadlines_of, saturating_sum, Moved, beyond, Acting}
+use Rattle.lazy_heap.proofs.Calling.{handed_on}
 use Rattle.expiring.proofs.Frames.{kept_same}
 use Rattle.expiring.proofs.Limits.{err_ok, same_err, no_book_lem}
 
@@ -186,6 +188,14 @@ module _ (ws : List ℕ) (b : Expiring) (t : Tick) (c : Call) where
             go : (z : Bool) → beyond ch ws b ≡ z → P
             go true e = f e
             go false e = g e
+
+-- what is handed on where the numbers are refused
+module _ {ws : List ℕ} {b : Expiring} {t : Tick} {c : Call} {why : Refusal} {r : Result ⊤ Refusal} where
+  pub look_limits : (said : Result Answer Refusal) → r ≡ book_limits (capacity_of b) (limit_of b) (length ws) → r ≡ Err why → IsErr said × IsErrAnd said (λ e. e ≡ why) → Looking ws b t c said
+  look_limits said l e q = rw (handed_on q) (follow_limits ws b t c (sym l ∙ e))
+
+  pub update_limits : (said : Result (Counted Answer) Refusal) → r ≡ book_limits (capacity_of b) (limit_of b) (length ws) → r ≡ Err why → IsErr said × IsErrAnd said (λ e. e ≡ why) → Updating ws b t c ws b said
+  update_limits said l e q = rw (handed_on q) (follow_limits ws b t c (sym l ∙ e))
 
 -- ---- what steps come to
 module _ {ws ws' : List ℕ} {b b' : Expiring} {ch : Change} {f : Items → Items} {d : ℕ} (move : Moved ws b ch f ws' b' d) (free : IsBook ws b → beyond ch ws b ≡ false) where

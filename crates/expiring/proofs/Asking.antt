@@ -38,12 +38,12 @@ module _ {ws : List ℕ} {b : Expiring} where
   pub counted_entries : Room (length ws) (capacity_of b) (limit_of b) → {r : Result ℕ Refusal} → calls.HeapLength (rest ws b) b.index r → HeapLength ws b r
   counted_entries room a = counted room a
 
-come : (t : Tick) (x : Option Pair) (d : Option Tick) → d ≡ deadline_in x → come_by d t ≡ has_come t x
+come : (t : Tick) (x : Option Pair) (d : Option Tick) → d ≡ deadline_in x → come_by (Ok d) t ≡ has_come t x
 come t None d e = rw e
 come t (Some p) d e = rw e
 
 module _ {ws : List ℕ} {b : Expiring} {k : ℕ} {d : Option Tick} (t : Tick) (a : DeadlineOf ws b k d) where
-  pub expired_by_lem : {r : Bool} → r ≡ come_by d t → Expired ws b t k r
+  pub expired_by_lem : {r : Bool} → r ≡ come_by (Ok d) t → Expired ws b t k r
   unfolding deadline_of
   expired_by_lem e = record { answer = λ o. e ∙ come t (pairs.lookup k (deadlines_of ws b)) d (a.answer o) }
 

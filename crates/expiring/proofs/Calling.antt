@@ -3,7 +3,7 @@ use mathlib.Core.Path.{◌≡◌, refl, sym}
 use mathlib.Core.Bool.{Bool, true, false, cond}
 use mathlib.Core.List.{List}
 use Prim.Native.Nat.{ℕ, ◌^◌, ◌<◌}
-use Rattle.std.specs.Prelude.{Option}
+use Rattle.std.specs.Prelude.{Option, Ok}
 use Rattle.time.specs.declared.tick.Tick.{Tick}
 use Rattle.fast_lru_model.specs.Model.{Items}
 use Rattle.expiring_model.specs.declared.answers.Answer.TheVariants as answers
@@ -20,10 +20,10 @@ pub nothing_accepted : Accepted answers.Nothing
 nothing_accepted = no_refusal answers.Nothing refl
 
 -- with what the list found of a key, and the deadline that the key had
-module _ {ws ws' : List ℕ} {b b' : Expiring} {ch : Change} {f : Items → Items} {d : ℕ} (t : Tick) {k : ℕ} {old : Option Tick} (x : Option ℕ) (move : Moved ws b ch f ws' b' d) (free : IsBook ws b → beyond ch ws b ≡ false) (dated : DeadlineOf ws b k old) (value : IsBook ws b → of_found x ≡ value_of ws b k) (word : b.expirations < 2 ^ 64) where
+module _ {ws ws' : List ℕ} {b b' : Expiring} {ch : Change} {f : Items → Items} {d : ℕ} (t : Tick) {k : ℕ} {old : Option Tick} (x : Option ℕ) (move : Moved ws b ch f ws' b' d) (free : IsBook ws b → beyond ch ws b ≡ false) (dated : DeadlineOf ws b k old) (value : IsBook ws b → of_found (Ok x) ≡ value_of ws b k) (word : b.expirations < 2 ^ 64) where
   pub conclude : Acting ws b ch (f (stored_of ws b)) (cond (expired_in ws b t k) 1 0) (unless (expired_in ws b t k) (value_of ws b k)) ws' (concluding b' x old t d)
-  conclude = go (come_by old t) refl
+  conclude = go (come_by (Ok old) t) refl
     where
-      go : (e : Bool) → come_by old t ≡ e → Acting ws b ch (f (stored_of ws b)) (cond (expired_in ws b t k) 1 0) (unless (expired_in ws b t k) (value_of ws b k)) ws' (concluding b' x old t d)
+      go : (e : Bool) → come_by (Ok old) t ≡ e → Acting ws b ch (f (stored_of ws b)) (cond (expired_in ws b t k) 1 0) (unless (expired_in ws b t k) (value_of ws b k)) ws' (concluding b' x old t d)
       go true e = let y = expired_by_lem t dated (sym e) in rw e (acting_expired move free 1 nothing_accepted (λ o. refl) (λ o. rw (sym (y.answer o))) (λ o. rw (sym (y.answer o))))
-      go false e = let y = expired_by_lem t dated (sym e) in rw e (acting move free word (found_accepted x) (λ o. refl) (λ o. rw (sym (y.answer o))) (λ o. rw (sym (y.answer o)) (value o)))
+      go false e = let y = expired_by_lem t dated (sym e) in rw e (acting move free word (found_accepted (Ok x)) (λ o. refl) (λ o. rw (sym (y.answer o))) (λ o. rw (sym (y.answer o)) (value o)))

@@ -1,17 +1,20 @@
 -- From what the layers below promise of a step to what it does to the book that the numbers tell.
 use mathlib.Core.Path.{◌≡◌, refl, sym, ap, subst, ◌∙◌}
 use mathlib.Core.Bool.{true, false, cond}
-use mathlib.Core.List.{List}
+use mathlib.Core.List.{List, ◌++◌}
 use Prim.Native.Nat.{ℕ, ◌^◌, ◌<◌, ◌≤◌}
 use native.Mathlib.Omega.{arith}
 use borrow.Author.Tests.{lt-ltb, le-ltb}
-use lib.ListN.{length, get_or}
 use Rattle.rings.proofs.Counts.{by_lt}
-use Rattle.std.specs.Prelude.{Option, None, Result, Ok, Err}
+use lib.ListN.{length, get_or, take}
+use lib.ListN as numbers
+use lib.Seq.{length-take-le, get_or-take}
+use Rattle.std.specs.Prelude.{Option, None, Result, Ok, Err, ⊤}
 use Rattle.std.specs.Result.{result_unwrap_or}
+use Rattle.limits.specs.Limits.{book_limits}
 use Rattle.time.specs.declared.tick.Tick.{Tick}
-use Rattle.time.specs.declared.refusal.Refusal.{Refusal}
 use Rattle.time.specs.declared.refusal.Refusal.TheVariants.{TooFewWords}
+use Rattle.time.specs.declared.refusal.Refusal.{Refusal}
 use Rattle.time.specs.declared.duration.TtlTicks.{TtlTicks}
 use Rattle.lazy_heap_model.specs.declared.counted.Counted.{Counted}
 use Rattle.fast_lru.specs.declared.lru.FastLru.{FastLru}
@@ -30,13 +33,13 @@ use Rattle.expiring.specs.Calls.{Following}
 use Rattle.expiring.specs.Numbers.{lru_in, index_in, book_in, with_lru, with_deadlines, with_held, with_expiration, with_book}
 use Rattle.expiring_answers.specs.Answers.{of_found, come_by}
 use Rattle.expiring.specs.Steps.{stored_of, DeadlineOf, Moved, same, Dating, beyond, expired_in, value_of, unless, Acting, Inserting}
-use Rattle.expiring.specs.Changes.{Ready, Stay, reply_in, saying, admitted, Setting, Dropping, Valuing, Putting, Concluding, Changing}
-use Rattle.expiring.proofs.Acting.{follow_limits}
+use Rattle.expiring.specs.Changes.{RoomIn, Ready, Stay, reply_in, saying, admitted, too_few_numbers, Setting, Dropping, Valuing, Putting, Concluding, Changing}
 use Rattle.expiring.proofs.Moving.{lent, back, index_kept, moved_drop, moved_later}
-use Rattle.expiring.proofs.Limits.{err_ok, same_err, limits_room}
+use Rattle.expiring.proofs.Acting.{follow_limits}
+use Rattle.expiring.proofs.Limits.{err_ok, same_err, limits_room, room_limits}
 use Rattle.expiring.proofs.Calling.{conclude}
 use Rattle.expiring.proofs.Valuing.{value_of_lem, moved_values, said_changing, dating, removed_held}
-use Rattle.expiring.proofs.Storing.{lru_stored, deadlines_stored, held_stored, book_stored, expiration_stored, stay_same, stay_lru, stay_deadlines, stay_held, stay_expiration}
+use Rattle.expiring.proofs.Storing.{lru_stored, deadlines_stored, held_stored, book_stored, expiration_stored, stay_same, stay_lru, stay_deadlines, stay_held, stay_expiration, book_front, book_back, stay_front}
 
 -- ---- the index's numbers, and then its part of the words
 module _ {ns ws : List ℕ} (ready : Ready ns (length ws)) {k : ℕ} {ys : List ℕ} {x : ExpirationIndex} {r : Result (Counted (Option Tick)) Refusal} where
@@ -66,7 +69,7 @@ module _ {ns ws ws' : List ℕ} (h : 12 ≤ length ns) {k : ℕ} {f : Items → 
 
 -- ---- the expirations
 module _ {ns : List ℕ} (x : Option ℕ) (old : Option Tick) (t : Tick) where
-  pub concluding_expired : 12 ≤ length ns → come_by old t ≡ true → Concluding ns x old t (with_expiration ns) answers.Nothing
+  pub concluding_expired : 12 ≤ length ns → come_by (Ok old) t ≡ true → Concluding ns x old t (with_expiration ns) answers.Nothing
   concluding_expired h e = record { stay = stay_expiration ns; reply = λ d. rw e (ap (λ (b : Expiring). record { book = b; answer = answers.Nothing; discarded = d }) (expiration_stored ns h)) }
 
 -- ---- first the deadline, then the value, and then what the call comes to
@@ -74,7 +77,7 @@ module _ (ns : List ℕ) {ns₁ ns₂ ns₃ ws ws₁ ws₂ : List ℕ} {ch : Cha
   pub concludes : {f : Items → Items} → Valuing ns₁ ws₁ k f ns₂ ws₂ x → Acting ws (book_in ns) ch (f (stored_of ws (book_in ns))) (cond (expired_in ws (book_in ns) t k) 1 0) (unless (expired_in ws (book_in ns) t k) (value_of ws (book_in ns) k)) ws₂ (reply_in ns₃ (record { answer = a; discarded = d }))
   concludes {f} p =
       subst (λ r. Acting ws (book_in ns) ch (f (stored_of ws (book_in ns))) (cond (expired_in ws (book_in ns) t k) 1 0) (unless (expired_in ws (book_in ns) t k) (value_of ws (book_in ns) k)) ws₂ r) (sym (done.reply d))
-      (conclude t x (moved_later move p.moved) free held (λ is. ap of_found (p.value (move.book is) ∙ ap (list.value_of k) (move.stored is)) ∙ value_of_lem k (stored_of ws (book_in ns))) word)
+      (conclude t x (moved_later move p.moved) free held (λ is. ap (λ (v : Option ℕ). of_found (Ok v)) (p.value (move.book is) ∙ ap (list.value_of k) (move.stored is)) ∙ value_of_lem k (stored_of ws (book_in ns))) word)
 
   pub put_after : (v : ℕ) → Putting ns₁ ws₁ k v ns₂ ws₂ x → Inserting ws (book_in ns) t k v ch ws₂ (reply_in ns₃ (record { answer = a; discarded = d }))
   put_after v p =
@@ -82,23 +85,53 @@ module _ (ns : List ℕ) {ns₁ ns₂ ns₃ ws ws₁ ws₂ : List ℕ} {ch : Cha
       (concludes p)
 
 -- ---- calls
+pub ready_in : (ns : List ℕ) {size : ℕ} → 12 ≤ length ns → book_limits (capacity_of (book_in ns)) (limit_of (book_in ns)) size ≡ Ok tt → Ready ns size
+ready_in ns h l = record { numbers = h; room = limits_room _ _ _ l }
+
+-- the first of twelve numbers or more
+pub front_size : (ns : List ℕ) {front : List ℕ} → 12 ≤ length ns → front ≡ take 12 ns → 12 ≤ length front
+front_size ns h e = omega (arith, ap length e, length-take-le 12 ns h)
+
 pub admitted_ready : (ns : List ℕ) {size : ℕ} → admitted ns size ≡ Ok tt → Ready ns size
 unfolding admitted
 admitted_ready ns {size} e =
     by_lt (length ns) 12 (λ few. absurd (err_ok TooFewWords (sym (rw (lt-ltb (length ns) 12 few)) ∙ e)))
-    (λ h. record { numbers = h; room = limits_room (capacity_of (book_in ns)) (limit_of (book_in ns)) size (sym (rw (le-ltb (length ns) 12 h)) ∙ e) })
+    (λ h. ready_in ns h (sym (rw (le-ltb (length ns) 12 h)) ∙ e))
 
+-- the limits of a book that was read are those of the one that the numbers tell
+pub limits_in_lem : (ns : List ℕ) {b : Expiring} → b ≡ book_in ns → (size : ℕ) {o o' : Result ⊤ Refusal} → o ≡ book_limits (capacity_of b) (limit_of b) size → o ≡ o' → book_limits (capacity_of (book_in ns)) (limit_of (book_in ns)) size ≡ o'
+limits_in_lem ns e size {o} {o'} l q = subst (λ b. book_limits (capacity_of b) (limit_of b) size ≡ o') e (sym l ∙ q)
+
+-- the first twelve of them tell the same book
+pub room_front : (ns : List ℕ) {front : List ℕ} {size : ℕ} → front ≡ take 12 ns → Ready ns size → RoomIn front size
+room_front ns {front} {size} e ready = limits_room (capacity_of (book_in front)) (limit_of (book_in front)) size (limits_in_lem front (sym (ap book_in e ∙ book_front ns ready.numbers)) size refl (room_limits ready.room))
+
+pub word_front : (ns : List ℕ) {front : List ℕ} → front ≡ take 12 ns → get_or ns 11 0 < 2 ^ 64 → get_or front 11 0 < 2 ^ 64
+word_front ns e w = rw (e, get_or-take 12 ns 11 0 (omega arith)) w
+
+-- fewer than twelve numbers, and enough of them
 module _ {ns ws : List ℕ} {t : Tick} {c : Call} where
+  pub changing_refused : {r : Counted Answer} → length ns < 12 → r ≡ too_few_numbers → Changing ns ws t c ns ws r
+  changing_refused few e = record { refused = λ _. (e, refl, refl); call = λ h. absurd (omega arith); stay = stay_same ns }
+
   pub changing : {ns' ws' : List ℕ} {r : Counted Answer} → 12 ≤ length ns → Stay ns ns' → Following ws (book_in ns) t c ws' (reply_in ns' r) → Changing ns ws t c ns' ws' r
   changing h s o = record { refused = λ few. absurd (omega arith); call = λ _. o; stay = s }
 
-  -- fewer than twelve numbers, or a book's own refusal
+  -- and a book's own refusal
   pub turned_back : {why : Refusal} → admitted ns (length ws) ≡ Err why → Changing ns ws t c ns ws (saying (answers.Refused why))
   unfolding admitted
   turned_back {why} e =
       by_lt (length ns) 12
-      (λ few. record { refused = λ _. (ap (λ (w : Refusal). saying (answers.Refused w)) (same_err (sym e ∙ rw (lt-ltb (length ns) 12 few))), refl, refl); call = λ h. absurd (omega arith); stay = stay_same ns })
+      (λ few. changing_refused few (ap (λ (w : Refusal). saying (answers.Refused w)) (same_err (sym e ∙ rw (lt-ltb (length ns) 12 few)))))
       (λ h. changing h (stay_same ns) (follow_limits ws (book_in ns) t c (sym (rw (le-ltb (length ns) 12 h)) ∙ e)))
+
+-- a call on the first twelve numbers is one on all of them
+pub on_front : (ns ns' : List ℕ) {front ws ws' : List ℕ} {t : Tick} {c : Call} {r : Counted Answer} → 12 ≤ length ns → front ≡ take 12 ns → Stay front ns' → Following ws (book_in front) t c ws' (reply_in ns' r) → Changing ns ws t c (ns' ++ numbers.drop 12 ns) ws' r
+on_front ns ns' {front} {ws} {ws'} {t} {c} {r} h e s o =
+    let long : 12 ≤ length ns' = omega (arith, s.size, front_size ns h e) in
+    changing h (stay_front ns ns' h (subst (λ l. Stay l ns') e s))
+    (subst (λ b. Following ws (book_in ns) t c ws' (record { book = b; answer = r.answer; discarded = r.discarded })) (sym (book_back ns' (numbers.drop 12 ns) long))
+    (subst (λ b. Following ws b t c ws' (reply_in ns' r)) (ap book_in e ∙ book_front ns h) o))
 
 -- a book that was read is the one that the numbers tell
 pub default_in_lem : (ns : List ℕ) {b : Expiring} → b ≡ book_in ns → {l : Option TtlTicks} → b.default_ttl ≡ l → (book_in ns).default_ttl ≡ l

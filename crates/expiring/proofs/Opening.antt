@@ -40,17 +40,17 @@ ticks_refused : (x : Result TtlTicks Refusal) {why : Refusal} → option_transpo
 ticks_refused (Ok l) {why} e = absurd (err_ok why (sym e))
 ticks_refused (Err w) e = cc
 
-defaulted_refused : (l : Option Duration) {why : Refusal} → defaulted_by l ≡ Err why → by_duration l ≡ Err why
-defaulted_refused (Some d) e = ticks_refused (ticks_of d) e
-defaulted_refused None {why} e = absurd (err_ok why (sym e))
+by_duration_lem : (l : Option Duration) {why : Refusal} → defaulted_by l ≡ Err why → by_duration l ≡ Err why
+by_duration_lem (Some d) e = ticks_refused (ticks_of d) e
+by_duration_lem None {why} e = absurd (err_ok why (sym e))
 
 ticks_done : (x : Result TtlTicks Refusal) {t : Option TtlTicks} → option_transpose (Some x) ≡ Ok t → (outcome_of x ≡ Ok tt) × (of_ticks x ≡ t)
 ticks_done (Ok l) e = (refl, same_value e)
 ticks_done (Err w) e = absurd (err_ok w e)
 
-defaulted_done : (l : Option Duration) {t : Option TtlTicks} → defaulted_by l ≡ Ok t → (by_duration l ≡ Ok tt) × (default_of l ≡ t)
-defaulted_done (Some d) e = ticks_done (ticks_of d) e
-defaulted_done None e = (refl, same_value e)
+by_default_lem : (l : Option Duration) {t : Option TtlTicks} → defaulted_by l ≡ Ok t → (by_duration l ≡ Ok tt) × (default_of l ≡ t)
+by_default_lem (Some d) e = ticks_done (ticks_of d) e
+by_default_lem None e = (refl, same_value e)
 
 -- ---- refusals
 module _ (ws : List ℕ) (c d s : ℕ) (l : Option Duration) where
@@ -70,15 +70,15 @@ module _ (ws : List ℕ) (c d s : ℕ) (l : Option Duration) where
 
   pub opening_nanos : book_limits c d (length ws) ≡ Ok tt → {why : Refusal} → defaulted_by l ≡ Err why → Opening ws c d s l ws (Err why)
   unfolding opening_of
-  opening_nanos limits e = opening_refused (rw limits (defaulted_refused l e))
+  opening_nanos limits e = opening_refused (rw limits (by_duration_lem l e))
 
   pub opening_done : book_limits c d (length ws) ≡ Ok tt → {t : Option TtlTicks} → defaulted_by l ≡ Ok t → {ws' : List ℕ} {b : Expiring} → Opened ws c d s t ws' b → Opening ws c d s l ws' (Ok b)
   unfolding opening_of
   opening_done limits e {b = b} o = record {
-    outcome = sym (rw limits (defaulted_done l e).0);
+    outcome = sym (rw limits (by_default_lem l e).0);
     refused = λ why q. absurd (err_ok why (sym q));
     book = λ x q. rw (sym (same_value q)) o.book;
-    model = λ x q. rw (sym (same_value q)) (o.model ∙ ap (fresh c d) (sym (defaulted_done l e).1));
+    model = λ x q. rw (sym (same_value q)) (o.model ∙ ap (fresh c d) (sym (by_default_lem l e).1));
     heap = λ x q. rw (sym (same_value q)) o.heap;
     kept = o.kept;
   }

@@ -1,10 +1,9 @@
 -- One expired deadline is taken out, and its value.
 use mathlib.Core.Path.{◌≡◌, refl, sym, ap, ◌∙◌}
-use mathlib.Core.Bool.{true, false}
 use mathlib.Core.List.{List}
 use Prim.Native.Nat.{ℕ}
 use lib.ListN.{length}
-use Rattle.std.specs.Prelude.{Option, Some, None, Result, Ok}
+use Rattle.std.specs.Prelude.{Option, Some, None, is_some, Result, Ok}
 use Rattle.time.specs.declared.tick.Tick.{Tick}
 use Rattle.time.specs.declared.refusal.Refusal.{Refusal}
 use Rattle.lazy_heap_model.specs.declared.counted.Counted.{Counted}
@@ -30,6 +29,10 @@ same_some e = cc
 none_told : (x : Option Pair) → None ≡ pair_in x → x ≡ None
 none_told None e = refl
 none_told (Some p) e = cc
+
+some_pair : (x : Option Pair) → is_some (pair_in x) ≡ is_some x
+some_pair None = refl
+some_pair (Some p) = refl
 
 some_told : (x : Option Pair) {k : ℕ} {d : Tick} → Some (k, d) ≡ pair_in x → (p : Pair) × (x ≡ Some p) × (p.key ≡ k)
 some_told None e = cc
@@ -64,15 +67,18 @@ module _ (ws : List ℕ) (b : Expiring) (room : Room (length ws) (capacity_of b)
   discarded_then : IsBook ws b → y.discarded ≡ stale (heap_of ws b)
   discarded_then is = ap (λ (c : Counted (Option (ℕ × Tick))). c.discarded) (told is)
 
+  popped_then : IsBook ws b → is_some y.answer ≡ is_some (next_expired t (deadlines_of ws b))
+  popped_then is = ap (λ (c : Counted (Option (ℕ × Tick))). is_some c.answer) (told is) ∙ some_pair (next_expired t (deadlines_of ws b))
+
   -- nothing was expired
-  pub popping_none : y.answer ≡ None → PoppingExpired ws b t (back ws b ys) b₁ (counted false y.discarded)
+  pub popping_none : y.answer ≡ None → PoppingExpired ws b t (back ws b ys) b₁ (counted (is_some y.answer) y.discarded)
   popping_none q = record {
     capacity = refl;
     limit = o.call.limit;
     lifetime = refl;
     expirations = refl;
     book = is_book;
-    popped = λ is. sym (rw (none_next is));
+    popped = popped_then;
     stored = λ is. stored_same is ∙ sym (rw (none_next is));
     deadlines = deadlines_then;
     heap = heap_then;
@@ -83,14 +89,14 @@ module _ (ws : List ℕ) (b : Expiring) (room : Room (length ws) (capacity_of b)
       none_next : IsBook ws b → next_expired t (deadlines_of ws b) ≡ None
       none_next is = none_told (next_expired t (deadlines_of ws b)) (sym q ∙ ap (λ (c : Counted (Option (ℕ × Tick))). c.answer) (told is))
 
-  pub popping_some : {k : ℕ} {d : Tick} {ws₂ : List ℕ} {b₂ : Expiring} → y.answer ≡ Some (k, d) → Moved (back ws b ys) b₁ keep (list.without k) ws₂ b₂ 0 → PoppingExpired ws b t ws₂ b₂ (counted true y.discarded)
+  pub popping_some : {k : ℕ} {d : Tick} {ws₂ : List ℕ} {b₂ : Expiring} → y.answer ≡ Some (k, d) → Moved (back ws b ys) b₁ keep (list.without k) ws₂ b₂ 0 → PoppingExpired ws b t ws₂ b₂ (counted (is_some y.answer) y.discarded)
   popping_some {k} q m = record {
     capacity = m.capacity;
     limit = m.limit ∙ o.call.limit;
     lifetime = m.lifetime;
     expirations = m.expirations;
     book = λ is. m.book (is_book is);
-    popped = λ is. sym (rw (found is).1);
+    popped = popped_then;
     stored = λ is. m.stored (is_book is) ∙ ap (list.without k) (stored_same is) ∙ sym (rw ((found is).1, (found is).2));
     deadlines = λ is. m.deadlines (is_book is) ∙ pairs_keep (deadlines_of (back ws b ys) b₁) ∙ deadlines_then is;
     heap = λ is. m.heap (is_book is) ∙ heap_keep (heap_of (back ws b ys) b₁) ∙ heap_then is;

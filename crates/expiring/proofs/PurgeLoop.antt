@@ -28,8 +28,8 @@ use Rattle.expiring.proofs.Following.{count_accepted}
 use Rattle.expiring.proofs.Acting.{acting_expired, follow}
 use Rattle.expiring.proofs.Purging.{purged_accounts, purged_none, discards_none, purged_some, discards_some, expired_few, count_none, pairs_none, stored_none, taken_is, count_some, pairs_some, stored_some}
 
--- n pairs were taken out and so many stale entries discarded, so that what is to be done is what was to be done at first, but
--- for these
+-- n pairs were taken out and so many stale entries discarded, so that what is to be done is what was to be done
+-- at first, but for these
 pub record Progress (ws : List ℕ) (b : Expiring) (t : Tick) (ws' : List ℕ) (b' : Expiring) (n stale : ℕ) : Type 0 where
   pub capacity : capacity_of b' ≡ capacity_of b
   pub limit : limit_of b' ≡ limit_of b

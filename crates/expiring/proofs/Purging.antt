@@ -1,5 +1,5 @@
--- A purge takes one expired deadline after the other: what is still to do stays the same with each, and with none left it is
--- a look at the next due.
+-- A purge takes one expired deadline after the other: what is still to do stays the same with each, and with
+-- none left it is a look at the next due.
 use mathlib.Core.Path.{◌≡◌, refl, sym, ap, ◌∙◌}
 use mathlib.Core.Bool.{Bool, true, false, cond, ◌&&◌}
 use mathlib.Core.Logic.{⊎_elim}

@@ -1,10 +1,11 @@
 -- The numbers that are stored are read back, and no others change.
 use mathlib.Core.Path.{◌≡◌, refl, sym, ap, ◌∙◌}
-use mathlib.Core.List.{List, [], ◌∷◌}
-use Prim.Native.Nat.{ℕ, suc, ◌≤◌}
+use mathlib.Core.List.{List, [], ◌∷◌, ◌++◌}
+use Prim.Native.Nat.{ℕ, suc, ◌-◌, ◌≤◌}
 use native.Mathlib.Omega.{arith}
-use lib.ListN.{length, get_or, length-set}
-use lib.Seq.{get_or-set_other}
+use lib.ListN.{length, get_or, take, drop, length-set, length-append, length-drop, get_or-append}
+use lib.Seq.{get_or-set_other, length-take-le, get_or-append_right, get_or-take, get_or-drop}
+use Rattle.rings.proofs.Counts.{by_lt}
 use Rattle.fast_lru.specs.declared.lru.FastLru.{FastLru}
 use Rattle.lazy_heap.specs.declared.heap.LazyMinHeap.{LazyMinHeap}
 use Rattle.lazy_heap.specs.Calls as heap
@@ -118,3 +119,33 @@ stay_changed ns ns' h s = go (as_twelve ns h) (as_twelve ns' (omega (arith, s.si
 pub changed_size : (ns : List ℕ) (b : Expiring) → length (with_changed ns b) ≡ length ns
 unfolding with_changed with_lru with_deadlines
 changed_size ns b = simp length-set
+
+-- ---- a call is handed the first twelve of the numbers, and those behind them stay
+pub book_front : (ns : List ℕ) → 12 ≤ length ns → book_in (take 12 ns) ≡ book_in ns
+book_front ns h = go (as_twelve ns h)
+  where
+    go : {ns : List ℕ} → Twelve ns → book_in (take 12 ns) ≡ book_in ns
+    go (twelve ns) = refl
+
+pub book_back : (ns more : List ℕ) → 12 ≤ length ns → book_in (ns ++ more) ≡ book_in ns
+book_back ns more h = go (as_twelve ns h)
+  where
+    go : {ns : List ℕ} → Twelve ns → book_in (ns ++ more) ≡ book_in ns
+    go (twelve ns) = refl
+
+pub changed_front : (ns : List ℕ) (b : Expiring) → 12 ≤ length ns → with_changed (take 12 ns) b ++ drop 12 ns ≡ with_changed ns b
+unfolding with_changed with_lru with_deadlines
+changed_front ns b h = go (as_twelve ns h)
+  where
+    go : {ns : List ℕ} → Twelve ns → with_changed (take 12 ns) b ++ drop 12 ns ≡ with_changed ns b
+    go (twelve ns) = refl
+
+pub stay_front : (ns ns' : List ℕ) → 12 ≤ length ns → Stay (take 12 ns) ns' → Stay ns (ns' ++ drop 12 ns)
+stay_front ns ns' h s =
+    let long : length ns' ≡ 12 = s.size ∙ length-take-le 12 ns h in
+    record {
+      size = omega (arith, length-append ns' (drop 12 ns), length-drop 12 ns, long, h);
+      others = λ j a b c d e f g i. by_lt j 12
+          (λ low. get_or-append ns' (drop 12 ns) 0 j (omega (arith, long, low)) ∙ s.others j a b c d e f g i ∙ get_or-take 12 ns j 0 low)
+          (λ high. get_or-append_right ns' (drop 12 ns) j 0 (omega (arith, long, high)) ∙ get_or-drop 12 ns (j - length ns') 0 ∙ ap (λ (k : ℕ). get_or ns k 0) (omega (arith, long, high)));
+    }

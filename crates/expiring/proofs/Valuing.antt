@@ -37,23 +37,21 @@ use Rattle.expiring.proofs.Moving.{moved_list, lent, back, lent_is, lent_index, 
 use Rattle.expiring.proofs.Acting.{Accepted, no_refusal}
 
 -- ---- a value
-value_found : (x : Option Item) → of_found (list.value_in x) ≡ value_in x
+value_found : (x : Option Item) → of_found (Ok (list.value_in x)) ≡ value_in x
 value_found None = refl
 value_found (Some i) = refl
 
-pub found_accepted : (f : Option ℕ) → Accepted (of_found f)
-found_accepted (Some v) = no_refusal (answers.Value v) refl
-found_accepted None = no_refusal answers.Nothing refl
+pub found_accepted : (f : Result (Option ℕ) Refusal) → Accepted (of_found f)
+found_accepted (Ok (Some v)) = no_refusal (answers.Value v) refl
+found_accepted (Ok None) = no_refusal answers.Nothing refl
+found_accepted (Err why) = no_refusal answers.Nothing refl
 
-pub value_of_lem : (k : ℕ) (s : Items) → of_found (list.value_of k s) ≡ value_in (list.lookup k s)
+pub value_of_lem : (k : ℕ) (s : Items) → of_found (Ok (list.value_of k s)) ≡ value_in (list.lookup k s)
 unfolding list.value_of
 value_of_lem k s = value_found (list.lookup k s)
 
 -- ---- the list's calls. What it refuses it would answer on no book.
 module _ {ws : List ℕ} {b : Expiring} {A : Type 0} {answer : Items → A} {r : Result A Refusal} where
-  pub said_asking : lru.Asking ws b.inner answer r → (u : A) → IsBook ws b → result_unwrap_or r u ≡ answer (stored_of ws b)
-  said_asking o u is = ap (λ (x : Result A Refusal). result_unwrap_or x u) (o.answer is.list)
-
   module _ {ws' : List ℕ} {f : Items → Items} {l : FastLru} (o : lru.Changing ws b.inner answer f ws' l r) where
     pub moved_values : Moved ws b keep f ws' (with_list b l) 0
     moved_values = moved_list b l o.capacity o.kept f o.list o.model

@@ -7,6 +7,7 @@ use Rattle.time.specs.declared.refusal.Refusal.TheVariants.{InvalidNanos, KeyLim
 use Rattle.time.specs.declared.duration.Duration.{Duration}
 use Rattle.time.specs.declared.duration.TtlTicks.{TtlTicks}
 use Rattle.time.specs.Duration.{is_duration, millis_of, ticks_of}
+use Rattle.lazy_heap_model.specs.declared.counted.Counted.{Counted}
 use Rattle.lazy_heap_model.specs.Model as heap
 use Rattle.lazy_heap.specs.Answers.{outcome_of}
 use Rattle.expiration_index.specs.Index.{factor}
@@ -15,6 +16,8 @@ use Rattle.expiring.specs.declared.answers.Reply.{Reply}
 use Rattle.expiring.specs.declared.expiring.Expiring.{Expiring}
 use Rattle.expiring_model.specs.Model.{Call, set_ttl, default_of, fresh, bad_nanos, answer_of, book_after}
 use Rattle.expiring_model.specs.Discards.{discarded_by, heap_by}
+use Rattle.expiring_model.specs.declared.answers.Answer.{Answer}
+use Rattle.expiring.specs.Steps.{answering, telling}
 use Rattle.expiring.specs.Book.{capacity_of, limit_of, IsBook, heap_of, model_of, Kept}
 
 -- the numbers that `default` makes, which a caller that keeps numbers keeps where an opening is refused
@@ -34,9 +37,9 @@ and_nanos (Ok u) bad = cond bad (Err InvalidNanos) (Ok tt)
 unfoldable pub cause_of : Expiring → ℕ → Call → Result ⊤ Refusal
 cause_of b size c = and_nanos (book_limits (capacity_of b) (limit_of b) size) (bad_nanos c)
 
--- what every call promises: on any words and numbers refusals 1, 2 and 3 under their causes alone, and that no refusal
--- changes anything; on a book, the answer, the model and the heap after it and the discarded count, whatever was replaced
--- and removed before; and that words past the book's own stay
+-- what every call promises: on any words and numbers refusals 1, 2 and 3 under their causes alone, and that no
+-- refusal changes anything; on a book, the answer, the model and the heap after it and the discarded count,
+-- whatever was replaced and removed before; and that words past the book's own stay
 pub record Following (ws : List ℕ) (b : Expiring) (t : Tick) (c : Call) (ws' : List ℕ) (r : Reply) : Type 0 where
   pub caused : (why : Refusal) → cause_of b (length ws) c ≡ Err why → r.answer ≡ answers.Refused why
   pub only : (why : Refusal) → r.answer ≡ answers.Refused why → (cause_of b (length ws) c ≡ Err why) ⊎ ((cause_of b (length ws) c ≡ Ok tt) × (why ≡ KeyLimitReached))
@@ -47,6 +50,14 @@ pub record Following (ws : List ℕ) (b : Expiring) (t : Tick) (c : Call) (ws' :
   pub discarded : IsBook ws b → (m n : ℕ) → r.discarded ≡ discarded_by t c (model_of ws b m n) (heap_of ws b)
   pub heap : IsBook ws b → (m n : ℕ) → heap_of ws' r.book ≡ heap_by t c (model_of ws b m n) (heap_of ws b)
   pub kept : Kept (capacity_of b) (limit_of b) ws ws'
+
+-- that promise where a refusal is still to be told: of a call that changes nothing, and of one that may change the
+-- book
+abbrev pub Looking : List ℕ → Expiring → Tick → Call → Result Answer Refusal → Type 0
+Looking ws b t c said = Following ws b t c ws (answering b said)
+
+abbrev pub Updating : List ℕ → Expiring → Tick → Call → List ℕ → Expiring → Result (Counted Answer) Refusal → Type 0
+Updating ws b t c ws' b' said = Following ws b t c ws' (telling b' said)
 
 -- ---- `open`
 abbrev pub by_duration : Option Duration → Result ⊤ Refusal

@@ -1,6 +1,6 @@
 -- What the calls on numbers in words promise: the promise of the book's own call, of the book that the numbers tell before it and
 -- the one that they tell after it.
-use Rattle.std.specs.Prelude.{◌≡◌, cond, ◌≢◌, List, ℕ, ◌<◌, ◌≤◌, ltb, length, get_or, Option, Result, Err, ⊤}
+use Rattle.std.specs.Prelude.{◌≡◌, cond, ◌≢◌, List, ℕ, ◌<◌, ◌≤◌, ltb, length, get_or, Option, Result, Ok, Err, ⊤}
 use Rattle.limits.specs.Limits.{book_limits}
 use Rattle.time.specs.declared.tick.Tick.{Tick}
 use Rattle.time.specs.declared.refusal.Refusal.{Refusal}
@@ -16,6 +16,10 @@ use Rattle.expiring.specs.Book.{Room, capacity_of, limit_of, IsBook}
 use Rattle.expiring.specs.Calls.{Following}
 use Rattle.expiring.specs.Numbers.{book_in}
 use Rattle.expiring.specs.Steps.{stored_of, DeadlineOf, Moved, same, Dating, putting, concluding}
+
+-- so many words have room for the book that the numbers tell
+abbrev pub RoomIn : List ℕ → ℕ → Type 0
+RoomIn ns size = Room size (capacity_of (book_in ns)) (limit_of (book_in ns))
 
 -- twelve numbers, and words with room for the book that they tell
 pub record Ready (ns : List ℕ) (size : ℕ) : Type 0 where
@@ -34,6 +38,11 @@ reply_in ns s = record { book = book_in ns; answer = s.answer; discarded = s.dis
 -- an answer of a call that discarded nothing
 abbrev pub saying : Answer → Counted Answer
 saying a = record { answer = a; discarded = 0 }
+
+-- what is said of a call that may be refused
+abbrev pub told : Result (Counted Answer) Refusal → Counted Answer
+told (Ok said) = said
+told (Err why) = saying (answers.Refused why)
 
 -- ---- steps
 -- `set_deadline`

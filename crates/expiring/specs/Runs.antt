@@ -1,5 +1,5 @@
--- Demand 3: "a single claim about the whole list and not one for each call". A list of calls on a fresh book, and what it comes
--- to.
+-- Demand 3: "a single claim about the whole list and not one for each call". A list of calls on a fresh book,
+-- and what it comes to.
 use Rattle.std.specs.Prelude.{◌≡◌, List, [], ◌∷◌, ℕ, ◌+◌, length}
 use Rattle.time.specs.declared.tick.Tick.{Tick}
 use Rattle.lazy_heap_model.specs.Model.{heap_len}
@@ -11,8 +11,9 @@ use Rattle.expiring_model.specs.Lists.{Calls, answers_of, book_at_end}
 use Rattle.expiring.specs.Book.{IsBook, heap_of, model_of}
 use Rattle.expiring.specs.Calls.{Following}
 
--- "Each call of a list is lent the book's words as the call before left them, and handed the numbers that it handed back."
--- From words and numbers by calls to the answers, the total of the discarded counts, and words and numbers.
+-- "Each call of a list is lent the book's words as the call before left them, and handed the numbers that it
+-- handed back." From words and numbers by calls to the answers, the total of the discarded counts, and words and
+-- numbers.
 pub data Run : List ℕ → Expiring → Calls → List Answer → ℕ → List ℕ → Expiring → Type 0 where
   none : {ws : List ℕ} {b : Expiring} → Run ws b [] [] 0 ws b
   more : {ws ws₁ ws' : List ℕ} {b b' : Expiring} {t : Tick} {c : Call} {r : Reply} {cs : Calls} {told : List Answer} {n : ℕ} → Following ws b t c ws₁ r → Run ws₁ r.book cs told n ws' b' → Run ws b ((t, c) ∷ cs) (r.answer ∷ told) (r.discarded + n) ws' b'

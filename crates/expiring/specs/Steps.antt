@@ -48,6 +48,16 @@ with_expired b n = record { inner = b.inner; index = b.index; default_ttl = b.de
 abbrev pub replying : Expiring → Answer → Reply
 replying b a = record { book = b; answer = a; discarded = 0 }
 
+-- what is said of a book, or why nothing is
+abbrev pub answering : Expiring → Result Answer Refusal → Reply
+answering b (Ok a) = replying b a
+answering b (Err why) = replying b (answers.Refused why)
+
+-- and how many entries were discarded
+abbrev pub telling : Expiring → Result (Counted Answer) Refusal → Reply
+telling b (Ok said) = record { book = b; answer = said.answer; discarded = said.discarded }
+telling b (Err why) = replying b (answers.Refused why)
+
 -- ---- what stands in the words
 abbrev pub stored_of : List ℕ → Expiring → Items
 stored_of ws b = lru.model_of ws b.inner
@@ -118,8 +128,8 @@ beyond (drop_expired t) ws b = false
 beyond drop_all ws b = false
 beyond look ws b = false
 
--- a reply after which the values are s and n more keys have expired, with the answer a, by doing ch to the deadlines,
--- unless this would set one beyond the limit
+-- a reply after which the values are s and n more keys have expired, with the answer a, by doing ch to the
+-- deadlines, unless this would set one beyond the limit
 pub record Acting (ws : List ℕ) (b : Expiring) (ch : Change) (s : Items) (n : ℕ) (a : Answer) (ws' : List ℕ) (r : Reply) : Type 0 where
   pub only : (why : Refusal) → r.answer ≡ answers.Refused why → why ≡ KeyLimitReached
   pub refused : (why : Refusal) → r.answer ≡ answers.Refused why → (r.book ≡ b) × (r.discarded ≡ 0) × (ws' ≡ ws)
@@ -138,7 +148,7 @@ pub record Acting (ws : List ℕ) (b : Expiring) (ch : Change) (s : Items) (n : 
 
 -- `concluded`: the answer is what the list found of a key, unless the key's old deadline had come
 abbrev pub concluding : Expiring → Option ℕ → Option Tick → Tick → ℕ → Reply
-concluding b f old t d = cond (come_by old t) (record { book = with_expired b 1; answer = answers.Nothing; discarded = d }) (record { book = b; answer = of_found f; discarded = d })
+concluding b f old t d = cond (come_by (Ok old) t) (record { book = with_expired b 1; answer = answers.Nothing; discarded = d }) (record { book = b; answer = of_found (Ok f); discarded = d })
 
 -- `insert_until` and `insert_forever`
 abbrev pub Inserting : List ℕ → Expiring → Tick → ℕ → ℕ → Change → List ℕ → Reply → Type 0

@@ -1,20 +1,21 @@
 // The book's calls.
 #![tactic(auto, using(crate::proofs::Limits::limits_room))]
 
-ghost use Rattle.std.specs.Prelude.{◌≡◌, List, ℕ, length};
+ghost use Rattle.std.specs.Prelude.{◌≡◌, ◌^◌, ◌<◌, length, Ok};
 ghost use Rattle.time.specs.declared.tick.Tick.{Tick};
 ghost use Rattle.limits.specs.Limits.{book_limits};
 ghost use Rattle.expiring_model.specs.declared.answers.Answer.TheVariants as answers;
 ghost use Rattle.expiring_model.specs.Model.{Call, contains, peek, get, insert, remove, clear, insert_with_ttl, ttl_status, set_ttl, purge_expired, live_len, expirations, next_deadline, touch, recency_rank, pop_lru, peek_lru, drop_all};
 ghost use Rattle.expiring.specs.Book.{Room, capacity_of, limit_of, rest};
-ghost use Rattle.expiring.specs.Calls.{Following, Opening, Checking, DeadlinesHeld, HeapLength};
+ghost use Rattle.expiring.specs.Calls.{Following, Looking, Updating, Opening, Checking, DeadlinesHeld, HeapLength};
 ghost use Rattle.expiring.specs.Changes.{Changing};
-ghost use Rattle.expiring.specs.Steps.{defaulted_by, with_expired, replying, purging, DeadlineOf, Expired, Stored, StoredCount, ExpiredCount, Moved, same, PoppingExpired, Opened};
+ghost use Rattle.expiring.specs.Steps.{defaulted_by, with_expired, answering, telling, purging, DeadlineOf, Expired, Stored, StoredCount, ExpiredCount, Moved, same, PoppingExpired, Opened};
 
 pub mod changes;
 
 use crate::answers::Reply;
 use crate::numbers;
+use changes::saying;
 use expiration_index::ExpirationIndex;
 use expiring_answers::{has_come, of_due, of_found, of_oldest, of_rank, of_told, status_of};
 use expiring_model::Answer;
@@ -22,8 +23,8 @@ use fast_lru::FastLru;
 use lazy_heap_model::Counted;
 use time::{Duration, Refusal, Tick, TtlTicks};
 
-// The book's numbers; all else is in the words. A caller that keeps numbers keeps those of `default`, all 0 and no default lifetime,
-// where an opening is refused.
+// The book's numbers; all else is in the words. A caller that keeps numbers keeps those of `default`, all 0 and
+// no default lifetime, where an opening is refused.
 #[derive(Clone, Copy, Default)]
 pub struct Expiring {
     pub inner: FastLru,
@@ -63,6 +64,9 @@ fn open_within(
     }
 }
 
+// Seven calls are compiled in place, and what they do too: two crates or three call each, and as functions of their
+// own they would hand book and reply over in memory. Calls that look alike are a line each over a step with `?`.
+// (One function with a closure for all was tried, and proves: `contains` by itself then took 310 instructions for 285.)
 impl Expiring {
     // ---- opening
 
@@ -83,30 +87,19 @@ impl Expiring {
 
     // ---- what is stored
 
+    #[inline(always)]
     pub fn contains(self, words: &[u64], tick: Tick, key: u64) -> Reply
         ensures { Following words.now self tick (contains key) words.now result }
     {
-        if let Err(why) = self.limits(words.len()) {
-            return self.refused(why);
-        }
-        if self.is_expired(words, tick, key) {
-            return self.answered(Answer::No);
-        }
-        self.answered(of_told(self.is_stored(words, key)))
+        self.answered(self.try_contains(words, tick, key))
     }
 
     // It moves nothing.
+    #[inline(always)]
     pub fn peek(self, words: &[u64], tick: Tick, key: u64) -> Reply
         ensures { Following words.now self tick (peek key) words.now result }
     {
-        if let Err(why) = self.limits(words.len()) {
-            return self.refused(why);
-        }
-        if self.is_expired(words, tick, key) {
-            return self.answered(Answer::Nothing);
-        }
-        let found = self.inner.peek(words, key);
-        self.answered(of_found(found.unwrap_or(None)))
+        self.answered(self.try_peek(words, tick, key))
     }
 
     // It moves the key to the front; an expired one it removes.
@@ -154,31 +147,17 @@ impl Expiring {
     pub fn clear(mut self, words: &mut [u64], _tick: Tick) -> Reply
         ensures { Following words.old self _tick clear words.new result }
     {
-        if let Err(why) = self.limits(words.len()) {
-            return self.refused(why);
-        }
-        // A list that refuses is as it was, and then the book is none.
-        let _ = self.inner.clear(words);
-        let discarded = self.drop_all_deadlines(words);
-        Reply {
-            book: self,
-            answer: Answer::Done,
-            discarded,
-        }
+        let said = self.try_clear(words);
+        self.told(said)
     }
 
     // ---- lifetimes
 
+    #[inline(always)]
     pub fn ttl_status(self, words: &[u64], tick: Tick, key: u64) -> Reply
         ensures { Following words.now self tick (ttl_status key) words.now result }
     {
-        if let Err(why) = self.limits(words.len()) {
-            return self.refused(why);
-        }
-        if self.is_stored(words, key) {
-            return self.answered(status_of(self.deadline_of(words, key), tick));
-        }
-        self.answered(Answer::Missing)
+        self.answered(self.try_ttl_status(words, tick, key))
     }
 
     // 0 ticks remove the key.
@@ -191,34 +170,25 @@ impl Expiring {
     }
 
     // Drops every expired pair and its value.
-    pub fn purge_expired(self, words: &mut [u64], tick: Tick) -> Reply
+    pub fn purge_expired(mut self, words: &mut [u64], tick: Tick) -> Reply
         ensures { Following words.old self tick purge_expired words.new result }
     {
-        match self.limits(words.len()) {
-            Err(why) => self.refused(why),
-            Ok(()) => self.purge_within(words, tick),
-        }
+        let said = self.try_purge_expired(words, tick);
+        self.told(said)
     }
 
     // Values stored less deadlines expired, those of keys pushed out among them.
+    #[inline(always)]
     pub fn live_len(self, words: &[u64], tick: Tick) -> Reply
         ensures { Following words.now self tick live_len words.now result }
     {
-        if let Err(why) = self.limits(words.len()) {
-            return self.refused(why);
-        }
-        let stored = self.stored_count(words);
-        let expired = self.expired_count(words, tick);
-        self.answered(Answer::Count(stored.saturating_sub(expired) as u64))
+        self.answered(self.try_live_len(words, tick))
     }
 
     pub fn expirations(self, words: &[u64], _tick: Tick) -> Reply
         ensures { Following words.now self _tick expirations words.now result }
     {
-        match self.limits(words.len()) {
-            Err(why) => self.refused(why),
-            Ok(()) => self.answered(Answer::Count(self.expirations)),
-        }
+        self.answered(self.try_expirations(words))
     }
 
     // How many deadlines are held, those of keys pushed out among them.
@@ -238,55 +208,42 @@ impl Expiring {
     }
 
     // The next due, keys pushed out included. Stale entries before it are discarded.
-    pub fn next_deadline(self, words: &mut [u64], _tick: Tick) -> Reply
+    #[inline(always)]
+    pub fn next_deadline(mut self, words: &mut [u64], _tick: Tick) -> Reply
         ensures { Following words.old self _tick next_deadline words.new result }
     {
-        match self.limits(words.len()) {
-            Err(why) => self.refused(why),
-            Ok(()) => self.next_within(words, _tick),
-        }
+        let said = self.try_next_deadline(words);
+        self.told(said)
     }
 
     // ---- the recency list's own calls
 
+    #[inline(always)]
     pub fn touch(mut self, words: &mut [u64], _tick: Tick, key: u64) -> Reply
         ensures { Following words.old self _tick (touch key) words.new result }
     {
-        if let Err(why) = self.limits(words.len()) {
-            return self.refused(why);
-        }
-        let touched = self.inner.touch(words, key);
-        self.answered(of_told(touched.unwrap_or(false)))
+        let said = self.try_touch(words, key);
+        self.told(said)
     }
 
     pub fn recency_rank(self, words: &[u64], _tick: Tick, key: u64) -> Reply
         ensures { Following words.now self _tick (recency_rank key) words.now result }
     {
-        if let Err(why) = self.limits(words.len()) {
-            return self.refused(why);
-        }
-        let rank = self.inner.recency_rank(words, key);
-        self.answered(of_rank(rank.unwrap_or(None)))
+        self.answered(self.try_recency_rank(words, key))
     }
 
+    #[inline(always)]
     pub fn pop_lru(mut self, words: &mut [u64], _tick: Tick) -> Reply
         ensures { Following words.old self _tick pop_lru words.new result }
     {
-        if let Err(why) = self.limits(words.len()) {
-            return self.refused(why);
-        }
-        let popped = self.inner.pop_lru(words);
-        self.answered(of_oldest(popped.unwrap_or(None)))
+        let said = self.try_pop_lru(words);
+        self.told(said)
     }
 
     pub fn peek_lru(self, words: &[u64], _tick: Tick) -> Reply
         ensures { Following words.now self _tick peek_lru words.now result }
     {
-        if let Err(why) = self.limits(words.len()) {
-            return self.refused(why);
-        }
-        let oldest = self.inner.peek_lru(words);
-        self.answered(of_oldest(oldest.unwrap_or(None)))
+        self.answered(self.try_peek_lru(words))
     }
 
     // ---- the check
@@ -295,16 +252,137 @@ impl Expiring {
     pub fn check(self, words: &[u64]) -> bool
         ensures { Checking words.now self result }
     {
-        match self.limits(words.len()) {
-            Err(_) => false,
-            Ok(()) => self.inner.check(words) && self.index.check(self.deadlines(words)),
+        self.limits(words.len()).is_ok()
+            && self.inner.check(words)
+            && self.index.check(self.deadlines(words))
+    }
+
+    // ---- what the calls do: an answer, or why it is refused
+
+    #[inline(always)]
+    fn try_contains(self, words: &[u64], tick: Tick, key: u64) -> Result<Answer, Refusal>
+        ensures { Looking words.now self tick (contains key) result }
+    {
+        self.limits(words.len())?;
+        if self.is_expired(words, tick, key) {
+            return Ok(Answer::No);
         }
+        Ok(of_told(self.inner.contains(words, key)))
+    }
+
+    #[inline(always)]
+    fn try_peek(self, words: &[u64], tick: Tick, key: u64) -> Result<Answer, Refusal>
+        ensures { Looking words.now self tick (peek key) result }
+    {
+        self.limits(words.len())?;
+        if self.is_expired(words, tick, key) {
+            return Ok(Answer::Nothing);
+        }
+        Ok(of_found(self.inner.peek(words, key)))
+    }
+
+    fn try_clear(&mut self, words: &mut [u64]) -> Result<Counted<Answer>, Refusal>
+        ensures { (t : Tick) → Updating words.old self.old t clear words.new self.new result }
+    {
+        self.limits(words.len())?;
+        // A list that refuses is as it was, and then the book is none.
+        let _ = self.inner.clear(words);
+        let discarded = self.drop_all_deadlines(words);
+        Ok(Counted {
+            answer: Answer::Done,
+            discarded,
+        })
+    }
+
+    #[inline(always)]
+    fn try_ttl_status(self, words: &[u64], tick: Tick, key: u64) -> Result<Answer, Refusal>
+        ensures { Looking words.now self tick (ttl_status key) result }
+    {
+        self.limits(words.len())?;
+        if self.is_stored(words, key) {
+            return Ok(status_of(Ok(self.deadline_of(words, key)), tick));
+        }
+        Ok(Answer::Missing)
+    }
+
+    fn try_purge_expired(
+        &mut self,
+        words: &mut [u64],
+        tick: Tick,
+    ) -> Result<Counted<Answer>, Refusal>
+        ensures { Updating words.old self.old tick purge_expired words.new self.new result }
+    {
+        self.limits(words.len())?;
+        Ok(self.purge_within(words, tick))
+    }
+
+    #[inline(always)]
+    fn try_live_len(self, words: &[u64], tick: Tick) -> Result<Answer, Refusal>
+        ensures { Looking words.now self tick live_len result }
+    {
+        self.limits(words.len())?;
+        let stored = self.stored_count(words);
+        let expired = self.expired_count(words, tick);
+        Ok(Answer::Count(stored.saturating_sub(expired) as u64))
+    }
+
+    fn try_expirations(self, words: &[u64]) -> Result<Answer, Refusal>
+        ensures { (t : Tick) → Looking words.now self t expirations result }
+    {
+        self.limits(words.len())?;
+        Ok(Answer::Count(self.expirations))
+    }
+
+    #[inline(always)]
+    fn try_next_deadline(&mut self, words: &mut [u64]) -> Result<Counted<Answer>, Refusal>
+        ensures { (t : Tick) → Updating words.old self.old t next_deadline words.new self.new result }
+    {
+        self.limits(words.len())?;
+        let start = 64 + 8 * self.inner.map.capacity;
+        let due = self.index.next_deadline(&mut words[start..])?;
+        Ok(Counted {
+            answer: of_due(Ok(due.answer)),
+            discarded: due.discarded,
+        })
+    }
+
+    #[inline(always)]
+    fn try_touch(&mut self, words: &mut [u64], key: u64) -> Result<Counted<Answer>, Refusal>
+        ensures { (t : Tick) → Updating words.old self.old t (touch key) words.new self.new result }
+    {
+        self.limits(words.len())?;
+        Ok(saying(of_told(self.inner.touch(words, key))))
+    }
+
+    fn try_recency_rank(self, words: &[u64], key: u64) -> Result<Answer, Refusal>
+        ensures { (t : Tick) → Looking words.now self t (recency_rank key) result }
+    {
+        self.limits(words.len())?;
+        Ok(of_rank(self.inner.recency_rank(words, key)))
+    }
+
+    #[inline(always)]
+    fn try_pop_lru(&mut self, words: &mut [u64]) -> Result<Counted<Answer>, Refusal>
+        ensures { (t : Tick) → Updating words.old self.old t pop_lru words.new self.new result }
+    {
+        self.limits(words.len())?;
+        Ok(saying(of_oldest(self.inner.pop_lru(words))))
+    }
+
+    fn try_peek_lru(self, words: &[u64]) -> Result<Answer, Refusal>
+        ensures { (t : Tick) → Looking words.now self t peek_lru result }
+    {
+        self.limits(words.len())?;
+        Ok(of_oldest(self.inner.peek_lru(words)))
     }
 
     // ---- replies
 
+    // The second clause holds by the type. It is for those that have the book by reference, of whose numbers no
+    // proof knows that they are words.
     fn limits(self, size: usize) -> Result<(), Refusal>
-        ensures { result ≡ book_limits (capacity_of self) (limit_of self) size }
+        ensures told { result ≡ book_limits (capacity_of self) (limit_of self) size }
+        ensures word { self.expirations < 2 ^ 64 }
     {
         limits::book(
             self.inner.map.capacity,
@@ -313,20 +391,23 @@ impl Expiring {
         )
     }
 
-    fn refused(self, why: Refusal) -> Reply
-        ensures { result ≡ replying self (answers.Refused why) }
+    // What was said of the book, or why nothing was.
+    fn told(self, said: Result<Counted<Answer>, Refusal>) -> Reply
+        ensures { result ≡ telling self said }
     {
-        self.answered(Answer::Refused(why))
-    }
-
-    fn answered(self, answer: Answer) -> Reply
-        ensures { result ≡ replying self answer }
-    {
+        let said = changes::told(said);
         Reply {
             book: self,
-            answer,
-            discarded: 0,
+            answer: said.answer,
+            discarded: said.discarded,
         }
+    }
+
+    // The same of a call that discards nothing.
+    fn answered(self, said: Result<Answer, Refusal>) -> Reply
+        ensures { result ≡ answering self said }
+    {
+        self.told(said.map(saying))
     }
 
     // The reply of a call on numbers, which are the book's own.
@@ -351,7 +432,9 @@ impl Expiring {
         self.expirations = self.expirations.saturating_add(n);
     }
 
-    // ---- what stands in the words. What the list refuses reads as if there were nothing; the index refuses nothing that has room.
+    // ---- what stands in the words. What the list refuses reads as if there were nothing; the index refuses nothing
+    // that has room. (The words are the caller's, lent to each call: so no struct holds them with the numbers, and a
+    // step requires `Room`.)
 
     // The words of the deadlines.
     fn deadlines(self, words: &[u64]) -> &[u64]
@@ -373,7 +456,7 @@ impl Expiring {
         requires { Room (length words.now) (capacity_of self) (limit_of self) }
         ensures { Expired words.now self tick key result }
     {
-        has_come(self.deadline_of(words, key), tick)
+        has_come(Ok(self.deadline_of(words, key)), tick)
     }
 
     fn is_stored(self, words: &[u64], key: u64) -> bool
@@ -408,25 +491,13 @@ impl Expiring {
         self.index.clear(&mut words[start..]).unwrap()
     }
 
-    // ---- the larger calls, on words and numbers within their limits
+    // ---- the purge, on words and numbers within their limits
 
-    fn next_within(mut self, words: &mut [u64], _tick: Tick) -> Reply
-        requires { Room (length words.old) (capacity_of self) (limit_of self) }
-        ensures { Following words.old self _tick next_deadline words.new result }
-    {
-        let start = 64 + 8 * self.inner.map.capacity;
-        let due = self.index.next_deadline(&mut words[start..]).unwrap();
-        Reply {
-            book: self,
-            answer: of_due(due.answer),
-            discarded: due.discarded,
-        }
-    }
-
-    // Takes the expired pairs out, the next due first. Each pair's entry has then left the heap, and counts as discarded.
-    fn purge_within(mut self, words: &mut [u64], tick: Tick) -> Reply
-        requires { Room (length words.old) (capacity_of self) (limit_of self) }
-        ensures { Following words.old self tick purge_expired words.new result }
+    // Takes the expired pairs out, the next due first. Each pair's entry has then left the heap, and counts as
+    // discarded.
+    fn purge_within(&mut self, words: &mut [u64], tick: Tick) -> Counted<Answer>
+        requires { Room (length words.old) (capacity_of self.old) (limit_of self.old) }
+        ensures { Updating words.old self.old tick purge_expired words.new self.new (Ok result) }
     {
         let rounds = self.index.heap.scores.capacity + 1;
         let mut stale: usize = 0;
@@ -440,36 +511,30 @@ impl Expiring {
         self.purged(rounds, stale)
     }
 
-    fn purged(mut self, count: usize, stale: usize) -> Reply
-        ensures { result ≡ purging self count stale }
+    fn purged(&mut self, count: usize, stale: usize) -> Counted<Answer>
+        ensures { telling self.new (Ok result) ≡ purging self.old count stale }
     {
         self.count_expired(count as u64);
-        Reply {
-            book: self,
+        Counted {
             answer: Answer::Count(count as u64),
             discarded: count.saturating_add(stale),
         }
     }
 
-    // Takes the next due out if it is expired, and its value. Answers whether it was, and how many stale entries were discarded.
+    // Takes the next due out if it is expired, and its value. Answers whether it was, and how many stale entries
+    // were discarded.
     fn pop_expired(&mut self, words: &mut [u64], tick: Tick) -> Counted<bool>
         requires { Room (length words.old) (capacity_of self.old) (limit_of self.old) }
         ensures { PoppingExpired words.old self.old tick words.new self.new result }
     {
         let start = 64 + 8 * self.inner.map.capacity;
         let popped = self.index.pop_expired(&mut words[start..], tick).unwrap();
-        match popped.answer {
-            Some((key, _)) => {
-                let _ = self.inner.remove(words, key);
-                Counted {
-                    answer: true,
-                    discarded: popped.discarded,
-                }
-            }
-            None => Counted {
-                answer: false,
-                discarded: popped.discarded,
-            },
+        if let Some((key, _)) = popped.answer {
+            let _ = self.inner.remove(words, key);
+        }
+        Counted {
+            answer: popped.answer.is_some(),
+            discarded: popped.discarded,
         }
     }
 }

@@ -1,5 +1,6 @@
-// The book's numbers in words: twelve, in the order of the structs. A call that is handed them in words changes those that change
-// where they stand, while a struct that a call takes or answers is copied in memory, and its reader waits for the copy.
+// The book's numbers in words, as a caller in C keeps them: twelve, in the order of the structs. A call that is
+// handed them in words changes those that change where they stand, while a struct that a call takes or answers is
+// copied in memory, and its reader waits for the copy.
 ghost use Rattle.std.specs.Prelude.{◌≡◌, ◌≤◌, length};
 ghost use Rattle.expiring.specs.Numbers.{lru_in, index_in, book_in, with_lru, with_deadlines, with_held, with_changed, with_book};
 
@@ -10,8 +11,7 @@ use lazy_heap::LazyMinHeap;
 use linked_hash_map::LinkedHashMap;
 use time::TtlTicks;
 
-pub fn list_in(numbers: &[u64]) -> FastLru
-    requires { 12 ≤ length numbers.now }
+pub(crate) fn list_in(numbers: &[u64; 12]) -> FastLru
     ensures { result ≡ lru_in numbers.now }
 {
     FastLru {
@@ -23,8 +23,7 @@ pub fn list_in(numbers: &[u64]) -> FastLru
     }
 }
 
-pub fn index_in(numbers: &[u64]) -> ExpirationIndex
-    requires { 12 ≤ length numbers.now }
+pub(crate) fn index_in(numbers: &[u64; 12]) -> ExpirationIndex
     ensures { result ≡ index_in numbers.now }
 {
     ExpirationIndex {
@@ -41,10 +40,13 @@ pub fn index_in(numbers: &[u64]) -> ExpirationIndex
     }
 }
 
+// A caller of this crate hands over a slice, of twelve or more: an array would ask more of it. So `book_in`,
+// `store_changed` and `store_book` take a slice.
 pub fn book_in(numbers: &[u64]) -> Expiring
     requires { 12 ≤ length numbers.now }
     ensures { result ≡ book_in numbers.now }
 {
+    let numbers = numbers.first_chunk().unwrap();
     let inner = list_in(numbers);
     let index = index_in(numbers);
     let is_given = numbers[9] != 0;
@@ -58,8 +60,7 @@ pub fn book_in(numbers: &[u64]) -> Expiring
 
 // The numbers of the list that a call may change.
 #[tactic(auto, unfolding(crate::specs::Numbers::with_lru))]
-pub fn store_list(numbers: &mut [u64], inner: FastLru)
-    requires { 12 ≤ length numbers.old }
+pub(crate) fn store_list(numbers: &mut [u64; 12], inner: FastLru)
     ensures { numbers.new ≡ with_lru numbers.old inner }
 {
     let map = inner.map;
@@ -69,8 +70,7 @@ pub fn store_list(numbers: &mut [u64], inner: FastLru)
 
 // And those of the index.
 #[tactic(auto, unfolding(crate::specs::Numbers::with_deadlines))]
-pub fn store_index(numbers: &mut [u64], index: ExpirationIndex)
-    requires { 12 ≤ length numbers.old }
+pub(crate) fn store_index(numbers: &mut [u64; 12], index: ExpirationIndex)
     ensures { numbers.new ≡ with_deadlines numbers.old index }
 {
     let heap = index.heap;
@@ -84,19 +84,20 @@ pub fn store_index(numbers: &mut [u64], index: ExpirationIndex)
 
 // How many deadlines are held: all that a removal changes of the index's numbers.
 #[tactic(auto, unfolding(crate::specs::Numbers::with_held))]
-pub fn store_held(numbers: &mut [u64], index: ExpirationIndex)
-    requires { 12 ≤ length numbers.old }
+pub(crate) fn store_held(numbers: &mut [u64; 12], index: ExpirationIndex)
     ensures { numbers.new ≡ with_held numbers.old index }
 {
     numbers[4] = index.heap.scores.len as u64;
 }
 
-// All that a call may change: neither the limits nor the default lifetime. A number that is stored makes the next call wait for it.
+// All that a call may change: neither the limits nor the default lifetime. A number that is stored makes the next
+// call wait for it.
 #[tactic(auto, unfolding(crate::specs::Numbers::with_changed))]
 pub fn store_changed(numbers: &mut [u64], book: Expiring)
     requires { 12 ≤ length numbers.old }
     ensures { numbers.new ≡ with_changed numbers.old book }
 {
+    let numbers = numbers.first_chunk_mut().unwrap();
     store_list(numbers, book.inner);
     store_index(numbers, book.index);
     numbers[11] = book.expirations;

@@ -1,39 +1,46 @@
-// The list's answers, and the next due.
+// The list's answers, and the next due. A layer's refusal reads as if there were nothing.
+// Four are alike but for the variant that they make. A trait for them would be no plainer.
 ghost use Rattle.std.specs.Prelude.{◌≡◌};
-ghost use Rattle.expiring_model.specs.Model.{rank_in, tell};
-ghost use Rattle.expiring_answers.specs.Answers.{of_found, of_oldest, of_due};
+ghost use Rattle.expiring_answers.specs.Answers.{of_found, of_told, of_oldest, of_rank, of_due};
 
 use expiring_model::Answer;
-use time::Tick;
+use time::{Refusal, Tick};
 
-pub fn of_found(value: Option<u64>) -> Answer
-    ensures { result ≡ of_found value }
+pub fn of_found(found: Result<Option<u64>, Refusal>) -> Answer
+    ensures { result ≡ of_found found }
 {
-    value.map_or(Answer::Nothing, Answer::Value)
+    found.unwrap_or(None).map_or(Answer::Nothing, Answer::Value)
 }
 
-pub fn of_told(yes: bool) -> Answer
-    ensures { result ≡ tell yes }
+pub fn of_told(told: Result<bool, Refusal>) -> Answer
+    ensures { result ≡ of_told told }
 {
-    if yes { Answer::Yes } else { Answer::No }
+    if told.unwrap_or(false) {
+        Answer::Yes
+    } else {
+        Answer::No
+    }
 }
 
-pub fn of_oldest(item: Option<(u64, u64)>) -> Answer
-    ensures { result ≡ of_oldest item }
+pub fn of_oldest(oldest: Result<Option<(u64, u64)>, Refusal>) -> Answer
+    ensures { result ≡ of_oldest oldest }
 {
-    item.map_or(Answer::Nothing, |(key, value)| Answer::Item(key, value))
+    oldest
+        .unwrap_or(None)
+        .map_or(Answer::Nothing, |(key, value)| Answer::Item(key, value))
 }
 
-pub fn of_rank(rank: Option<usize>) -> Answer
-    ensures { result ≡ rank_in rank }
+pub fn of_rank(rank: Result<Option<usize>, Refusal>) -> Answer
+    ensures { result ≡ of_rank rank }
 {
-    rank.map_or(Answer::Nothing, |n| Answer::Rank(n as u64))
+    rank.unwrap_or(None)
+        .map_or(Answer::Nothing, |n| Answer::Rank(n as u64))
 }
 
-pub fn of_due(pair: Option<(u64, Tick)>) -> Answer
-    ensures { result ≡ of_due pair }
+pub fn of_due(due: Result<Option<(u64, Tick)>, Refusal>) -> Answer
+    ensures { result ≡ of_due due }
 {
-    pair.map_or(
+    due.unwrap_or(None).map_or(
         Answer::Nothing,
         |(key, deadline)| Answer::Due(key, deadline),
     )

@@ -1,4 +1,5 @@
-// What the book makes of the answers of its layers, the list `fast_lru` and the index of deadlines `expiration_index`.
+// What the book makes of the answers of its layers, the list `fast_lru` and the index `expiration_index`. On a book
+// none of these is a refusal; elsewhere one reads as if there were nothing.
 #![tactic(auto)]
 
 mod answers;

@@ -5,7 +5,6 @@ use Prim.Native.Nat.{ℕ}
 use native.Mathlib.Omega.{arith}
 use lib.ListN.{length}
 use Rattle.std.specs.Prelude.{Option, Some, None, Result, Ok, Err, is_some, slice_get, ⊤}
-use Rattle.std.proofs.lemmas.Option.{some_pair_parts}
 use Rattle.limits.specs.Limits.{list_limits}
 use Rattle.time.specs.declared.refusal.Refusal.{Refusal}
 use Rattle.linked_hash_map.specs.declared.map.LinkedHashMap.{LinkedHashMap}
@@ -18,7 +17,7 @@ use Rattle.linked_hash_map.specs.Calls as calls
 use Rattle.linked_hash_map.proofs.Laws as laws
 use Rattle.fast_lru.specs.declared.lru.FastLru.{FastLru}
 use Rattle.fast_lru.specs.Refusals.{admitted}
-use Rattle.fast_lru_model.specs.Model.{Item, Items, has, without, value_in, item_in, value_of, to_front, last, oldest_of, popped}
+use Rattle.fast_lru_model.specs.Model.{Item, Items, has, without, less, value_in, item_in, value_of, to_front, last, oldest_of, popped}
 use Rattle.fast_lru.specs.Lru.{items, model_of}
 use Rattle.fast_lru.specs.Steps.{taking, Stepping, ValueAt, Picking}
 use Rattle.fast_lru.specs.Calls.{IsNew, Opening, Changing}
@@ -59,6 +58,19 @@ changing d s = record {
 model_without : (ws ws' : List ℕ) (l r : FastLru) (k : ℕ) → map.model_of ws' r.map ≡ held.without k (map.model_of ws l.map) → model_of ws' r ≡ without k (model_of ws l)
 unfolding model_of
 model_without ws ws' l r k e = ap items e ∙ without_items k (map.model_of ws l.map)
+
+-- the list with an item gone, told by its key and its value
+abbrev pub less_item : Option (ℕ × ℕ) → Items → Items
+less_item None l = l
+less_item (Some (k, v)) l = without k l
+
+pub less_item_lem : (o : Option Item) (l : Items) → less_item (item_in o) l ≡ less o l
+less_item_lem None l = refl
+less_item_lem (Some i) l = refl
+
+popped_item : (l : Items) {o : Option (ℕ × ℕ)} → o ≡ oldest_of l → less_item o l ≡ popped l
+unfolding popped oldest_of
+popped_item l e = ap (λ (y : Option (ℕ × ℕ)). less_item y l) e ∙ less_item_lem (last l) l
 
 -- the map's touch moves the item
 front_model : (ws : List ℕ) (l : FastLru) (k : ℕ) (ws' : List ℕ) (x : Result (Option ℕ) Unfit) → calls.Touching ws l.map k ws' x → IsMap ws l.map → model_of ws' l ≡ to_front k (model_of ws l)
@@ -117,29 +129,19 @@ module _ (ws : List ℕ) (l : FastLru) where
 
   -- the oldest item, removed by its key
   pub popping : (k v : ℕ) (ws' : List ℕ) (m' : LinkedHashMap) (r : Result (Option Record) Unfit) → Picking ws l (Some (k, v)) → calls.Removing ws l.map k ws' m' r → Stepping ws l oldest_of popped ws' (record { map = m' }) (Some (k, v))
-  unfolding popped oldest_of
   popping k v ws' m' r p h = record {
     answer = p.answer;
     capacity = h.capacity;
     map = h.map;
-    model = λ is. model_without ws ws' l (record { map = m' }) k (h.model is) ∙ go is (last (model_of ws l)) refl;
+    model = λ is. model_without ws ws' l (record { map = m' }) k (h.model is) ∙ popped_item (model_of ws l) (p.answer is);
     kept = h.kept;
   }
-    where
-      go : IsMap ws l.map → (o : Option Item) → last (model_of ws l) ≡ o → without k (model_of ws l) ≡ popped (model_of ws l)
-      go is None e = cc (p.answer is, ap item_in e)
-      go is (Some i) e = rw e (ap (λ (j : ℕ). without j (model_of ws l)) (some_pair_parts k i.key v i.value (p.answer is ∙ ap item_in e)).0)
 
   pub popping_none : Picking ws l None → Stepping ws l oldest_of popped ws l None
-  unfolding popped oldest_of
   popping_none p = record {
     answer = p.answer;
     capacity = refl;
     map = λ is. is;
-    model = λ is. go is (last (model_of ws l)) refl;
+    model = λ is. popped_item (model_of ws l) (p.answer is);
     kept = record { size = refl; past = λ j h. refl };
   }
-    where
-      go : IsMap ws l.map → (o : Option Item) → last (model_of ws l) ≡ o → model_of ws l ≡ popped (model_of ws l)
-      go is None e = rw e refl
-      go is (Some i) e = cc (p.answer is, ap item_in e)

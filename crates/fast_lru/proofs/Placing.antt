@@ -7,10 +7,11 @@ use native.Mathlib.Decide.{dec_lt}
 use native.Mathlib.Omega.{arith}
 use lib.ListN.{length}
 use borrow.Author.Tests.{lt-ltb, le-ltb}
-use Rattle.std.specs.Prelude.{Option, Some, None, Ok, Err}
+use Rattle.std.specs.Prelude.{Option, Some, None, Result, Ok, Err}
 use Rattle.std.proofs.lemmas.Option.{some_pair_parts}
 use Rattle.linked_hash_map.specs.declared.map.LinkedHashMap.{LinkedHashMap}
 use Rattle.linked_hash_map.specs.declared.map.Record.{Record}
+use Rattle.linked_hash_map.specs.declared.map.PutError.{PutError}
 use Rattle.linked_hash_map.specs.declared.map.PutError.TheVariants as failed
 use Rattle.linked_hash_map.specs.Model as held
 use Rattle.linked_hash_map.specs.Map.{IsMap}
@@ -125,13 +126,23 @@ module _ (ws : List ℕ) (l : FastLru) (x : Record) (ws' : List ℕ) where
   the : IsMap ws l.map → The
   the is = case_of ws l.map x is
 
+  -- not the full case: the map's model is the list's
+  pub put_in_lem : (m' : LinkedHashMap) (r : Result (Option Record) PutError) → Putting ws l.map x ws' m' r → (r ≡ Err failed.Full → ⊥) → IsMap ws l.map → model_of ws' (record { map = m' }) ≡ inserted l.map.capacity (item_of x) (model_of ws l)
+  unfolding model_of
+  put_in_lem m' r p room is = ap items (p.model is) ∙ go (the is)
+    where
+      go : The → items (held.put l.map.capacity x (map.model_of ws l.map)) ≡ inserted l.map.capacity (item_of x) (items (map.model_of ws l.map))
+      go (over y e v m) = m
+      go (new e v m) = m
+      go (full e v h f) = absurd (room (p.answer is ∙ e))
+
   pub placing_over : (m' : LinkedHashMap) (old : Record) → Putting ws l.map x ws' m' (Ok (Some old)) → Placing ws l x ws' (record { map = m' }) (Some old.first)
   unfolding model_of
   placing_over m' old p = record {
     answer = λ is. value is (the is);
     capacity = p.capacity;
     map = p.map;
-    model = λ is. ap items (p.model is) ∙ left is (the is);
+    model = put_in_lem m' _ p (λ e. cc);
     kept = p.kept;
   }
     where
@@ -140,18 +151,13 @@ module _ (ws : List ℕ) (l : FastLru) (x : Record) (ws' : List ℕ) where
       value is (new e v m) = cc (p.answer is)
       value is (full e v h f) = cc (p.answer is)
 
-      left : IsMap ws l.map → The → items (held.put l.map.capacity x (map.model_of ws l.map)) ≡ inserted l.map.capacity (item_of x) (items (map.model_of ws l.map))
-      left is (over r e v m) = m
-      left is (new e v m) = m
-      left is (full e v h f) = cc (p.answer is)
-
   pub placing_new : (m' : LinkedHashMap) → Putting ws l.map x ws' m' (Ok None) → Placing ws l x ws' (record { map = m' }) None
   unfolding model_of
   placing_new m' p = record {
     answer = λ is. value is (the is);
     capacity = p.capacity;
     map = p.map;
-    model = λ is. ap items (p.model is) ∙ left is (the is);
+    model = put_in_lem m' _ p (λ e. cc);
     kept = p.kept;
   }
     where
@@ -159,11 +165,6 @@ module _ (ws : List ℕ) (l : FastLru) (x : Record) (ws' : List ℕ) where
       value is (over r e v m) = cc (p.answer is)
       value is (new e v m) = sym v
       value is (full e v h f) = sym v
-
-      left : IsMap ws l.map → The → items (held.put l.map.capacity x (map.model_of ws l.map)) ≡ inserted l.map.capacity (item_of x) (items (map.model_of ws l.map))
-      left is (over r e v m) = m
-      left is (new e v m) = m
-      left is (full e v h f) = cc (p.answer is)
 
   -- the map says that it is full, so the eviction starts from the list
   pub placing_evicting : (r : FastLru) → Putting ws l.map x ws l.map (Err failed.Full) → PlacingFull ws l x ws' r → Placing ws l x ws' r None

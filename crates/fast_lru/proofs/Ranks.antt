@@ -113,6 +113,14 @@ module _ (ws : List ℕ) (l : FastLru) (k : ℕ) where
   pub rank_no_end : (x : Result (Option ℕ) Unfit) (p : ℕ) → p ≤ l.map.len - 1 → calls.Ending ws l.map p x → slot_in x ≡ None → RankOf ws l k None
   rank_no_end x p low end e = record { answer = λ is. rank_none (λ q y b n m. omega (arith, model_length ws l, place_past ws l p (sym (ap slot_in (end.answer is)) ∙ e))) }
 
-  -- the rank from a key's slot and the two ends is the key's
-  pub rank_ends : (y x z : Result (Option ℕ) Unfit) (q s t : ℕ) (r : Option ℕ) → calls.Finding ws l.map k y → calls.Ending ws l.map 0 x → calls.Ending ws l.map (l.map.len - 1) z → slot_in y ≡ Some q → slot_in x ≡ Some s → slot_in z ≡ Some t → RankBetween ws l q s t r → RankOf ws l k r
-  rank_ends y x z q s t r found first last d e f b = record { answer = λ is. b.answer is k (sym (ap slot_in (found.answer is)) ∙ d) (sym (ap slot_in (first.answer is)) ∙ e) (sym (ap slot_in (last.answer is)) ∙ f) }
+-- the rank of whichever key has slot x
+abbrev pub RankFrom : List ℕ → FastLru → ℕ → Option ℕ → Type 0
+RankFrom ws l x r = IsMap ws l.map → (k : ℕ) → slot_of ws l.map k ≡ Some x → r ≡ rank_of k (model_of ws l)
+
+-- the rank from a key's slot is the key's
+pub rank_from_lem : {ws : List ℕ} {l : FastLru} {k x : ℕ} {y : Result (Option ℕ) Unfit} {r : Option ℕ} → calls.Finding ws l.map k y → slot_in y ≡ Some x → RankFrom ws l x r → RankOf ws l k r
+rank_from_lem f e b = record { answer = λ is. b is _ (sym (ap slot_in (f.answer is)) ∙ e) }
+
+-- and that of the walks from the two ends
+pub rank_ends : (ws : List ℕ) (l : FastLru) (k : ℕ) (y x z : Result (Option ℕ) Unfit) (q s t : ℕ) (r : Option ℕ) → calls.Finding ws l.map k y → calls.Ending ws l.map 0 x → calls.Ending ws l.map (l.map.len - 1) z → slot_in y ≡ Some q → slot_in x ≡ Some s → slot_in z ≡ Some t → RankBetween ws l q s t r → RankOf ws l k r
+rank_ends ws l k y x z q s t r found first last d e f b = rank_from_lem found d (λ is j at. b.answer is j at (sym (ap slot_in (first.answer is)) ∙ e) (sym (ap slot_in (last.answer is)) ∙ f))

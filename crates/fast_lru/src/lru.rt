@@ -18,7 +18,9 @@ pub struct FastLru {
 
 const MAX_CAPACITY: usize = 4096;
 
-// The map refuses nothing that the list has admitted: its refusals are never met, and stand for no slot.
+// The map refuses nothing that the list has admitted: its refusals are never met, and stand for no slot. (`touch`
+// and `pop_lru` are compiled in place, since the book's own are.) Calls that look alike, as `get` and `peek`, or
+// `len` and `capacity`, read other fields or promise other things: one function for two would be no plainer.
 impl FastLru {
     // The empty list, in words of any contents.
     #[tactic(auto, using(crate::proofs::Changing::opening_refused, crate::proofs::Limits::opening_map, crate::proofs::Changing::opening_done))]
@@ -35,8 +37,7 @@ impl FastLru {
     fn out_of_range(self) -> bool
         ensures { result ≡ out_of_range self }
     {
-        let map = self.map;
-        MAX_CAPACITY < map.capacity || (map.capacity == 0 && map.len == 0 && map.refill_in == 0)
+        MAX_CAPACITY < self.map.capacity || self.map == LinkedHashMap::default()
     }
 
     #[tactic(auto, unfolding(crate::specs::Refusals::admitted))]
@@ -124,27 +125,27 @@ impl FastLru {
         Ok(self.place(words, item))
     }
 
-    // One lookup tells whether the key is there, and where it goes if not.
+    // One lookup tells whether the key is there, and where it goes if not. (This and `remove` go on at the place
+    // for one word: the map's `put` and `remove` answer a whole record, which would go through memory.)
     fn place(&mut self, words: &mut [u64], item: Record) -> Option<u64>
         ensures { Placing words.old self.old item words.new self.new result }
     {
-        match self.map.seek(words, item.key) {
-            Ok(Probe::At(_, slot)) => {
+        let Ok(place) = self.map.seek(words, item.key) else {
+            return None;
+        };
+        match place {
+            Probe::At(_, slot) => {
                 let old = self.map.replace_at(words, slot, item);
-                Some(old.first)
+                return Some(old.first);
             }
-            Ok(Probe::Free(cell)) => {
-                if self.map.len < self.map.capacity {
-                    self.map.insert_at(words, cell, item);
-                    return None;
-                }
-                self.place_evicting(words, item);
-                None
+            Probe::Free(cell) if self.map.len < self.map.capacity => {
+                self.map.insert_at(words, cell, item);
             }
-            // Neither is met in a list.
-            Ok(Probe::Full) => None,
-            Err(_) => None,
+            Probe::Free(_) => self.place_evicting(words, item),
+            // Not met in a list.
+            Probe::Full => {}
         }
+        None
     }
 
     // A new key in a full list takes the place of another. With no capacity there is none, and nothing is stored.
@@ -157,7 +158,8 @@ impl FastLru {
         }
     }
 
-    // The item that makes room for another.
+    // The item that makes room for another. It is `oldest` under a contract of its own, so that another choice of
+    // victim changes this function and nothing else.
     #[tactic(auto, using(crate::proofs::Slots::choosing))]
     fn victim(self, words: &[u64]) -> Option<(u64, u64)>
         ensures { Choosing words.now self result }
@@ -169,19 +171,20 @@ impl FastLru {
         ensures { Removing words.old self.old key words.new self.new result }
     {
         self.admitted(words.len())?;
-        match self.map.seek(words, key) {
-            Ok(Probe::At(cell, slot)) => {
+        let Ok(place) = self.map.seek(words, key) else {
+            return Ok(None);
+        };
+        match place {
+            Probe::At(cell, slot) => {
                 let value = self.map.take_at(words, cell, slot);
                 Ok(Some(value))
             }
-            Ok(Probe::Free(_)) => Ok(None),
-            // Neither is met in a list. (Three arms: with one pattern the proof does not see that the key is missing.)
-            Ok(Probe::Full) => Ok(None),
-            Err(_) => Ok(None),
+            Probe::Free(_) | Probe::Full => Ok(None),
         }
     }
 
     // Takes the least recent item out.
+    #[inline(always)]
     pub fn pop_lru(&mut self, words: &mut [u64]) -> Result<Option<(u64, u64)>, Refusal>
         ensures { Popping words.old self.old words.new self.new result }
     {
@@ -221,6 +224,7 @@ impl FastLru {
     }
 
     // Moves the item to the front, and says whether there is one.
+    #[inline(always)]
     pub fn touch(&mut self, words: &mut [u64], key: u64) -> Result<bool, Refusal>
         ensures { Touching words.old self.old key words.new self.new result }
     {
@@ -248,8 +252,8 @@ impl FastLru {
         self.rank_between(words, slot, first, last)
     }
 
-    // Walks from the first item's slot and from the last one's until they meet, with no look at a key. (Numbers that are no list's may say more
-    // items than there is room for: those are not walked.)
+    // Walks from the first item's slot and from the last one's until they meet, with no look at a key. (Numbers that
+    // are no list's may say more items than there is room for: those are not walked.)
     fn rank_between(self, words: &[u64], slot: usize, first: usize, last: usize) -> Option<usize>
         ensures { RankBetween words.now self slot first last result }
     {

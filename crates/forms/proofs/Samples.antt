@@ -35,12 +35,12 @@ all_hold (s ∷ ss) e =
 abbrev pub samples : List Sample
 samples =
     -- document 01's session
-    is "(book 2 4 0)" (form.Book 2 4 0)
+    is "(book 2 4 0)" (form.Book 2 4 0 None)
     ∷ is "(at 1000 (put 7 70 (ttl 2 0)))" (form.At 1000 (call.PutWithTtl 7 70 (record { secs = 2; nanos = 0 })))
     ∷ is "(at 3000 (get 7))" (form.At 3000 (call.Get 7))
     ∷ is "(at 3000 (due))" (form.At 3000 call.Due)
     -- the other forms
-    ∷ is "(book 2 4 0 (ttl 0 5000000))" (form.BookWithTtl 2 4 0 (record { secs = 0; nanos = 5000000 }))
+    ∷ is "(book 2 4 0 (ttl 0 5000000))" (form.Book 2 4 0 (Some (record { secs = 0; nanos = 5000000 })))
     ∷ is "(at 0 (put 7 70))" (form.At 0 (call.Put 7 70))
     ∷ is "(at 0 (peek 7))" (form.At 0 (call.Peek 7))
     ∷ is "(at 0 (has 7))" (form.At 0 (call.Has 7))

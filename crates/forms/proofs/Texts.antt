@@ -72,11 +72,11 @@ module _ (t : ℕ) where
   call_read call.Live b = named t 108 (bytes "ive))") [] b refl ∙ simp (own_read (bytes "live))") [] (λ i. b (suc i)) refl)
   call_read call.Clear b = named t 99 (bytes "lear))") [] b refl ∙ simp (own_read (bytes "clear))") [] (λ i. b (suc i)) refl)
 
-book_read : (c d s : ℕ) → Small (c ∷ d ∷ s ∷ []) → book_in (fill (bytes "(book 0 0 0)") (c ∷ d ∷ s ∷ [])) ≡ Some (form.Book c d s)
+book_read : (c d s : ℕ) → Small (c ∷ d ∷ s ∷ []) → book_in (fill (bytes "(book 0 0 0)") (c ∷ d ∷ s ∷ [])) ≡ Some (form.Book c d s None)
 unfolding book_in
 book_read c d s b = simp (own_read (bytes "(book 0 0 0)") (c ∷ d ∷ s ∷ []) b refl)
 
-book_with_ttl_read : (c d s : ℕ) (l : Lifetime) → Small (c ∷ d ∷ s ∷ l.secs ∷ l.nanos ∷ []) → book_in (fill (bytes "(book 0 0 0 (ttl 0 0))") (c ∷ d ∷ s ∷ l.secs ∷ l.nanos ∷ [])) ≡ Some (form.BookWithTtl c d s l)
+book_with_ttl_read : (c d s : ℕ) (l : Lifetime) → Small (c ∷ d ∷ s ∷ l.secs ∷ l.nanos ∷ []) → book_in (fill (bytes "(book 0 0 0 (ttl 0 0))") (c ∷ d ∷ s ∷ l.secs ∷ l.nanos ∷ [])) ≡ Some (form.Book c d s (Some l))
 unfolding book_in
 book_with_ttl_read c d s l b =
     simp (
@@ -88,8 +88,8 @@ no_call : (f ns : List ℕ) → Small ns → call_or_book (read_in (bytes "(at 0
 no_call f ns b = simp (differ (bytes "(") [] (small_take 0 ns b) 97 (bytes "t 0 (") 98 f ns refl refl refl refl)
 
 form_read : (f : Form) → Small (numbers_of f) → call_or_book (read_in (bytes "(at 0 (") (text_of f)) (text_of f) ≡ Some f
-form_read (form.Book c d s) b = no_call (bytes "ook 0 0 0)") (c ∷ d ∷ s ∷ []) b ∙ book_read c d s b
-form_read (form.BookWithTtl c d s l) b = no_call (bytes "ook 0 0 0 (ttl 0 0))") (c ∷ d ∷ s ∷ l.secs ∷ l.nanos ∷ []) b ∙ book_with_ttl_read c d s l b
+form_read (form.Book c d s None) b = no_call (bytes "ook 0 0 0)") (c ∷ d ∷ s ∷ []) b ∙ book_read c d s b
+form_read (form.Book c d s (Some l)) b = no_call (bytes "ook 0 0 0 (ttl 0 0))") (c ∷ d ∷ s ∷ l.secs ∷ l.nanos ∷ []) b ∙ book_with_ttl_read c d s l b
 form_read (form.At t c) b = call_read t c b
 
 pub spelled_read : {s : List ℕ} {f : Form} → Spells s f → form_in s ≡ Some f

@@ -23,8 +23,8 @@ call_format call.Live = "(live)"
 call_format call.Clear = "(clear)"
 
 abbrev pub format_of : Form → String
-format_of (form.Book c d s) = "(book 0 0 0)"
-format_of (form.BookWithTtl c d s l) = "(book 0 0 0 (ttl 0 0))"
+format_of (form.Book c d s None) = "(book 0 0 0)"
+format_of (form.Book c d s (Some l)) = "(book 0 0 0 (ttl 0 0))"
 format_of (form.At t c) = "(at 0 " ++ (call_format c ++ ")")
 
 abbrev pub call_numbers : Call → List ℕ
@@ -42,8 +42,8 @@ call_numbers call.Live = []
 call_numbers call.Clear = []
 
 abbrev pub numbers_of : Form → List ℕ
-numbers_of (form.Book c d s) = c ∷ d ∷ s ∷ []
-numbers_of (form.BookWithTtl c d s l) = c ∷ d ∷ s ∷ l.secs ∷ l.nanos ∷ []
+numbers_of (form.Book c d s None) = c ∷ d ∷ s ∷ []
+numbers_of (form.Book c d s (Some l)) = c ∷ d ∷ s ∷ l.secs ∷ l.nanos ∷ []
 numbers_of (form.At t c) = t ∷ call_numbers c
 
 abbrev pub text_of : Form → List ℕ

@@ -1,5 +1,6 @@
 -- What the parser's steps come to. That this reads each form from its text, and nothing else, is shown in proofs/.
-use Rattle.std.specs.Prelude.{◌≡◌, Option, None, Some, true, cond, List, [], ◌∷◌, ◌++◌, ℕ, suc, ◌<◌, ltb, eqb, length, get_or, drop, set}
+use Rattle.std.specs.Prelude.{◌≡◌, Option, None, Some, true, cond, List, [], ◌∷◌, ◌++◌, ℕ, suc, ◌<◌, ltb, eqb, length, get_or, set}
+use Rattle.std.specs.Borrow.{Bor}
 use Rattle.std.specs.Option.{option_map, option_or}
 use Rattle.text.specs.Text.{bytes}
 use Rattle.text.specs.Reading.{read_from, read_in, plain}
@@ -22,15 +23,15 @@ whole f s = only (read_in f s)
 abbrev pub numbers_in : Option ℕ → Option (List ℕ)
 numbers_in r = option_map (λ n. n ∷ 0 ∷ 0 ∷ 0 ∷ 0 ∷ []) r
 
-pub record ReadsOnly (line : List ℕ) (at : ℕ) (name : List ℕ) (r : Option ℕ) : Type 0 where
-  pub numbers : plain name ≡ true → numbers_in r ≡ whole (name ++ bytes "0))") (drop at line)
+pub record ReadsOnly (line name : List ℕ) (r : Option ℕ) : Type 0 where
+  pub numbers : plain name ≡ true → numbers_in r ≡ whole (name ++ bytes "0))") line
 
 -- a lifetime's two numbers, behind k others
 abbrev pub lifetime_in : ℕ → List ℕ → Option Lifetime → Option (List ℕ)
 lifetime_in k ns r = option_map (λ l. set (set ns k l.secs) (suc k) l.nanos) r
 
-pub record ReadsLifetime (line : List ℕ) (at : ℕ) (before behind : List ℕ) (r : Option Lifetime) : Type 0 where
-  pub numbers : plain before ≡ true → plain behind ≡ true → (k : ℕ) → k < 4 → (ns : List ℕ) → lifetime_in k ns r ≡ only (read_from k ns (before ++ (48 ∷ 32 ∷ 48 ∷ behind)) (drop at line))
+pub record ReadsLifetime (line before behind : List ℕ) (r : Option Lifetime) : Type 0 where
+  pub numbers : plain before ≡ true → plain behind ≡ true → (k : ℕ) → k < 4 → (ns : List ℕ) → lifetime_in k ns r ≡ only (read_from k ns (before ++ (48 ∷ 32 ∷ 48 ∷ behind)) line)
 
 -- ---- calls, from their name on: the first format that fits
 abbrev pub by_format : {A : Type 0} → List ℕ → (List ℕ → A) → List ℕ → Option A
@@ -62,6 +63,9 @@ one_in name make s = by_format (name ++ bytes "0))") (λ ns. make (first ns)) s
 abbrev pub none_in : List ℕ → Call → List ℕ → Option Call
 none_in name c s = by_format name (λ _. c) s
 
+abbrev pub ReadsName : List ℕ → List ℕ → Call → Option Call → Type 0
+ReadsName line name c r = plain name ≡ true → r ≡ none_in name c line
+
 unfoldable pub peek_in : List ℕ → Option Call
 peek_in s = option_or (one_in (bytes "peek ") call.Peek s) (none_in (bytes "purge))") call.Purge s)
 
@@ -90,9 +94,16 @@ call_in [] = None
 call_in (c ∷ s) = by_letter c (c ∷ s)
 
 unfoldable pub book_in : List ℕ → Option Form
-book_in s = option_or (by_format (bytes "(book 0 0 0)") (λ ns. form.Book (first ns) (second ns) (third ns)) s) (by_format (bytes "(book 0 0 0 (ttl 0 0))") (λ ns. form.BookWithTtl (first ns) (second ns) (third ns) (record { secs = fourth ns; nanos = fifth ns })) s)
+book_in s = option_or (by_format (bytes "(book 0 0 0)") (λ ns. form.Book (first ns) (second ns) (third ns) None) s) (by_format (bytes "(book 0 0 0 (ttl 0 0))") (λ ns. form.Book (first ns) (second ns) (third ns) (Some (record { secs = fourth ns; nanos = fifth ns }))) s)
 
 -- ---- a line
+-- a call's tick, and the text from its name on
+abbrev pub tick_in : Option (ℕ × Bor (List ℕ)) → Option (List ℕ × List ℕ)
+tick_in r = option_map (λ t. (t.0 ∷ 0 ∷ 0 ∷ 0 ∷ 0 ∷ [], t.1.now)) r
+
+abbrev pub ReadsTick : List ℕ → Option (ℕ × Bor (List ℕ)) → Type 0
+ReadsTick line r = tick_in r ≡ read_in (bytes "(at 0 (") line
+
 abbrev pub call_or_book : Option (List ℕ × List ℕ) → List ℕ → Option Form
 call_or_book None s = book_in s
 call_or_book (Some (ns, rest)) s = option_map (λ c. form.At (first ns) c) (call_in rest)

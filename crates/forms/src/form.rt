@@ -1,7 +1,7 @@
 // The forms, and the parser: a line is read as the form whose text it is.
-ghost use Rattle.std.specs.Prelude.{◌≡◌, drop};
+ghost use Rattle.std.specs.Prelude.{◌≡◌};
 ghost use Rattle.forms.specs.Forms.{Reads};
-ghost use Rattle.forms.specs.Reading.{ReadsOnly, ReadsLifetime, book_in, call_in, put_in, peek_in, ttl_in};
+ghost use Rattle.forms.specs.Reading.{ReadsTick, ReadsOnly, ReadsName, ReadsLifetime, book_in, call_in, put_in, peek_in, ttl_in};
 
 // A lifetime as it is written.
 #[derive(Clone, Copy)]
@@ -27,12 +27,16 @@ pub enum Call {
     Clear,
 }
 
+// What a line says: the first opens a book, each later one makes a call.
 #[derive(Clone, Copy)]
 pub enum Form {
-    // The capacity, the limit of deadlines and the first sequence number.
-    Book(u64, u64, u64),
-    // The same, and the default lifetime.
-    BookWithTtl(u64, u64, u64, Lifetime),
+    // The limit is that of deadlines; seq is the first sequence number.
+    Book {
+        capacity: u64,
+        limit: u64,
+        seq: u64,
+        default_ttl: Option<Lifetime>,
+    },
     // The tick, and the call.
     At(u64, Call),
 }
@@ -45,91 +49,115 @@ pub fn parse(line: &[u8]) -> Option<Form>
     if 200 < line.len() {
         return None;
     }
-    match text::number_after(line, 0, b"(at ") {
-        Some(tick) if text::starts(line, tick.end, b" (") => {
-            let call = call_at(line, tick.end + 2)?;
-            Some(Form::At(tick.value, call))
-        }
-        _ => book(line),
+    match tick(line) {
+        Some((tick, rest)) => Some(Form::At(tick, call_from(rest)?)),
+        None => book(line),
     }
 }
 
+// The tick of a call, and the call from its name on.
+#[tactic(auto, using(crate::proofs::Wholes::no_tick, crate::proofs::Wholes::no_open, crate::proofs::Wholes::opened, text::proofs::Laws::starts_none, text::proofs::Laws::starts_some))]
+fn tick(line: &[u8]) -> Option<(u64, &[u8])>
+    ensures { ReadsTick line.now result }
+{
+    let (tick, rest) = text::number_after(line, b"(at ")?;
+    Some((tick, rest.strip_prefix(b" (")?))
+}
+
+#[tactic(auto, using(crate::proofs::Pieces::no_capacity, crate::proofs::Pieces::no_limit, crate::proofs::Pieces::no_seq, crate::proofs::Pieces::book_ended, crate::proofs::Pieces::book_other, crate::proofs::Pieces::book_timed, text::proofs::Laws::ends_is))]
 fn book(line: &[u8]) -> Option<Form>
     ensures { result ≡ book_in line.now }
 {
-    let capacity = text::number_after(line, 0, b"(book ")?;
-    let limit = text::number_after(line, capacity.end, b" ")?;
-    let seq = text::number_after(line, limit.end, b" ")?;
-    if text::ends(line, seq.end, b")") {
-        return Some(Form::Book(capacity.value, limit.value, seq.value));
-    }
-    let ttl = two_numbers(line, seq.end, b" (ttl ", b"))")?;
-    Some(Form::BookWithTtl(capacity.value, limit.value, seq.value, ttl))
+    let (capacity, rest) = text::number_after(line, b"(book ")?;
+    let (limit, rest) = text::number_after(rest, b" ")?;
+    let (seq, rest) = text::number_after(rest, b" ")?;
+    let default_ttl = if rest == b")".as_slice() {
+        None
+    } else {
+        Some(two_numbers(rest, b" (ttl ", b"))")?)
+    };
+    Some(Form::Book {
+        capacity,
+        limit,
+        seq,
+        default_ttl,
+    })
 }
 
-// A call, from its name on, with the two brackets behind it. Its first letter tells which it can be.
-fn call_at(line: &[u8], at: usize) -> Option<Call>
-    ensures { result ≡ call_in (drop at line.now) }
+// A call, from its name on, with the two brackets behind it. Its first letter tells which it can be: letters come
+// from outside, and the table of them has to stand somewhere.
+#[tactic(auto, unfolding(crate::specs::Reading::call_in, crate::specs::Reading::by_letter), using(crate::proofs::Wholes::one_is))]
+fn call_from(line: &[u8]) -> Option<Call>
+    ensures { result ≡ call_in line.now }
 {
-    match *line.get(at)? {
-        b'p' => put(line, at).or_else(|| peek_or_purge(line, at)),
-        b'g' => only_number(line, at, b"get ").map(Call::Get),
-        b's' => only_number(line, at, b"status ").map(Call::Status),
-        b't' => ttl(line, at),
-        b'd' => only_number(line, at, b"drop ")
+    match line {
+        [b'p', ..] => put(line).or_else(|| peek_or_purge(line)),
+        [b'g', ..] => only_number(line, b"get ").map(Call::Get),
+        [b's', ..] => only_number(line, b"status ").map(Call::Status),
+        [b't', ..] => ttl(line),
+        [b'd', ..] => only_number(line, b"drop ")
             .map(Call::Drop)
-            .or_else(|| text::ends(line, at, b"due))").then_some(Call::Due)),
-        b'h' => only_number(line, at, b"has ").map(Call::Has),
-        b'l' => text::ends(line, at, b"live))").then_some(Call::Live),
-        b'c' => text::ends(line, at, b"clear))").then_some(Call::Clear),
+            .or_else(|| only_name(line, b"due))", Call::Due)),
+        [b'h', ..] => only_number(line, b"has ").map(Call::Has),
+        [b'l', ..] => only_name(line, b"live))", Call::Live),
+        [b'c', ..] => only_name(line, b"clear))", Call::Clear),
         _ => None,
     }
 }
 
-fn put(line: &[u8], at: usize) -> Option<Call>
-    ensures { result ≡ put_in (drop at line.now) }
+#[tactic(auto, using(crate::proofs::Pieces::put_no_key, crate::proofs::Pieces::put_no_value, crate::proofs::Pieces::put_ended, crate::proofs::Pieces::put_other, crate::proofs::Pieces::put_timed, text::proofs::Laws::ends_is))]
+fn put(line: &[u8]) -> Option<Call>
+    ensures { result ≡ put_in line.now }
 {
-    let key = text::number_after(line, at, b"put ")?;
-    let value = text::number_after(line, key.end, b" ")?;
-    if text::ends(line, value.end, b"))") {
-        return Some(Call::Put(key.value, value.value));
+    let (key, rest) = text::number_after(line, b"put ")?;
+    let (value, rest) = text::number_after(rest, b" ")?;
+    if rest == b"))".as_slice() {
+        return Some(Call::Put(key, value));
     }
-    let ttl = two_numbers(line, value.end, b" (ttl ", b")))")?;
-    Some(Call::PutWithTtl(key.value, value.value, ttl))
+    let ttl = two_numbers(rest, b" (ttl ", b")))")?;
+    Some(Call::PutWithTtl(key, value, ttl))
 }
 
-fn peek_or_purge(line: &[u8], at: usize) -> Option<Call>
-    ensures { result ≡ peek_in (drop at line.now) }
+#[tactic(auto, unfolding(crate::specs::Reading::peek_in), using(crate::proofs::Wholes::one_is))]
+fn peek_or_purge(line: &[u8]) -> Option<Call>
+    ensures { result ≡ peek_in line.now }
 {
-    only_number(line, at, b"peek ")
+    only_number(line, b"peek ")
         .map(Call::Peek)
-        .or_else(|| text::ends(line, at, b"purge))").then_some(Call::Purge))
+        .or_else(|| only_name(line, b"purge))", Call::Purge))
 }
 
-fn ttl(line: &[u8], at: usize) -> Option<Call>
-    ensures { result ≡ ttl_in (drop at line.now) }
+#[tactic(auto, using(crate::proofs::Pieces::ttl_no_key, crate::proofs::Pieces::ttl_no_ttl, crate::proofs::Pieces::ttl_read))]
+fn ttl(line: &[u8]) -> Option<Call>
+    ensures { result ≡ ttl_in line.now }
 {
-    let key = text::number_after(line, at, b"ttl ")?;
-    let ttl = two_numbers(line, key.end, b" ", b"))")?;
-    Some(Call::Ttl(key.value, ttl))
+    let (key, rest) = text::number_after(line, b"ttl ")?;
+    let ttl = two_numbers(rest, b" ", b"))")?;
+    Some(Call::Ttl(key, ttl))
 }
 
 // The number of a call that has one, from the call's name on.
-fn only_number(line: &[u8], at: usize, name: &[u8]) -> Option<u64>
-    ensures { ReadsOnly line.now at name.now result }
+#[tactic(auto, using(crate::proofs::Wholes::only_is))]
+fn only_number(line: &[u8], name: &[u8]) -> Option<u64>
+    ensures { ReadsOnly line.now name.now result }
 {
-    let number = text::number_after(line, at, name)?;
-    text::ends(line, number.end, b"))").then_some(number.value)
+    text::number_between(line, name, b"))")
+}
+
+// A call that has no number, from its name on.
+#[tactic(auto, using(crate::proofs::Wholes::named_is, text::proofs::Laws::ends_is))]
+fn only_name(line: &[u8], name: &[u8], call: Call) -> Option<Call>
+    ensures { ReadsName line.now name.now call result }
+{
+    (line == name).then_some(call)
 }
 
 // The two numbers of a lifetime that ends a line, with a text before them and one behind them.
-fn two_numbers(line: &[u8], at: usize, before: &[u8], behind: &[u8]) -> Option<Lifetime>
-    ensures { ReadsLifetime line.now at before.now behind.now result }
+#[tactic(auto, using(crate::proofs::Wholes::no_secs, crate::proofs::Wholes::no_nanos, crate::proofs::Wholes::both_read))]
+fn two_numbers(line: &[u8], before: &[u8], behind: &[u8]) -> Option<Lifetime>
+    ensures { ReadsLifetime line.now before.now behind.now result }
 {
-    let secs = text::number_after(line, at, before)?;
-    let nanos = text::number_after(line, secs.end, b" ")?;
-    text::ends(line, nanos.end, behind).then_some(Lifetime {
-        secs: secs.value,
-        nanos: nanos.value,
-    })
+    let (secs, rest) = text::number_after(line, before)?;
+    let nanos = text::number_between(rest, b" ", behind)?;
+    Some(Lifetime { secs, nanos })
 }

@@ -1,5 +1,5 @@
-// The forms of the session language, and the parser: document 01, "The session program". A form has one text, and a line is read as
-// the form whose text it is.
+// The forms of the session language, and the parser: document 01, "The session program". A form has one text,
+// and a line is read as the form whose text it is.
 #![tactic(auto)]
 
 mod form;

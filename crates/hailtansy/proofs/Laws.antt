@@ -1,5 +1,5 @@
--- What a function of this crate does is what the book's call does: the numbers that are read back are those that were stored, and
--- without room nothing is touched. A look leaves the model as it is.
+-- What a function of this crate does is what the book's call does: the numbers that are read back are those that
+-- were stored, and without room nothing is touched. A look leaves the model as it is.
 use mathlib.Core.Path.{◌≡◌, refl}
 use mathlib.Core.List.{List}
 use Prim.Native.Nat.{ℕ}

@@ -1,5 +1,5 @@
--- Calls one by one come to what the plain book comes to: each does, on what the one before left. A look hands no numbers back, and
--- those that it was handed still stand for the plain book, which it leaves as it is.
+-- Calls one by one come to what the plain book comes to: each does, on what the one before left. A look hands no
+-- numbers back, and those that it was handed still stand for the plain book, which it leaves as it is.
 use mathlib.Core.Path.{◌≡◌, refl, ap, ◌∙◌}
 use mathlib.Core.List.{List, [], ◌∷◌}
 use Prim.Native.Nat.{ℕ, ◌+◌, ◌^◌, ◌<◌, ◌≤◌}

@@ -1,4 +1,5 @@
--- What a call from outside promises: it is the book's call on the numbers and words that it is handed, with its answer written.
+-- What a call from outside promises: it is the book's call on the numbers and words that it is handed, with its
+-- answer written.
 use Rattle.std.specs.Prelude.{◌≡◌, List, ℕ, ◌^◌, ◌<◌, ◌≤◌, length, get_or}
 use Rattle.time.specs.declared.tick.Tick.{Tick}
 use Rattle.lazy_heap_model.specs.Model.{Heap}

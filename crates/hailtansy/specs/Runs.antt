@@ -1,5 +1,5 @@
--- Demand 3, of calls that are made one by one: "all its answers are the plain book's, and after it the book reads as the plain
--- book then stands".
+-- Demand 3, of calls that are made one by one: "all its answers are the plain book's, and after it the book
+-- reads as the plain book then stands".
 use Rattle.std.specs.Prelude.{◌≡◌, List, [], ◌∷◌, ◌++◌, ℕ, ◌+◌, length}
 use Rattle.lazy_heap_model.specs.Model.{heap_len}
 use Rattle.expiring_model.specs.Model.{Book, Call}
@@ -9,7 +9,8 @@ use Rattle.expiring.specs.Numbers.{book_in}
 use Rattle.replay_expiring.specs.Runs.{Told, told_in, discarded_in, words_of}
 use Rattle.hailtansy.specs.Calls.{Room, tick_of, Called, Looked}
 
--- calls from the numbers ns and the words ws on, each on what the one before left, with the answers as they were written
+-- calls from the numbers ns and the words ws on, each on what the one before left, with the answers as they were
+-- written
 pub data Series : List ℕ → List ℕ → Calls → List (List ℕ) → List ℕ → List ℕ → Type 0 where
   none : {ns ws : List ℕ} → Series ns ws [] [] ns ws
   call : {ns ws out ns₁ ws₁ out₁ ns' ws' : List ℕ} {t k : ℕ} {c : Call} {cs : Calls} {outs : List (List ℕ)} → Room ns out → Called ns ws t c out ns₁ ws₁ out₁ k → Series ns₁ ws₁ cs outs ns' ws' → Series ns ws ((tick_of t, c) ∷ cs) (out₁ ∷ outs) ns' ws'

@@ -2,8 +2,8 @@
 ghost use Rattle.std.specs.Prelude.{[], ◌∷◌};
 ghost use Rattle.replay_expiring.specs.Runs.{Opens, Checked, Replayed};
 
-// Opens a book in the words with room for `capacity` values and `limit` deadlines, its first sequence number, and, where
-// `given` is not 0, a default lifetime.
+// Opens a book in the words with room for `capacity` values and `limit` deadlines, its first sequence number, and,
+// where `given` is not 0, a default lifetime. It is a number and no flag: C may hand in any.
 #[unsafe(no_mangle)]
 pub extern "C" fn hailtansy_open(
     numbers: &mut [u64],

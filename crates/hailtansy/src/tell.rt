@@ -1,4 +1,5 @@
 // A call of the book, made where there is room for it, and told to the caller.
+// Three functions with one frame (room, or 0; the call; 1), since each lends the call other things.
 ghost use Rattle.std.specs.Prelude.{◌≡◌, true, false, List, ℕ};
 ghost use Rattle.lazy_heap_model.specs.declared.counted.Counted.{Counted};
 ghost use Rattle.expiring_model.specs.declared.answers.Answer.{Answer};

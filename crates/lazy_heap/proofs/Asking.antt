@@ -1,5 +1,5 @@
 -- What a heap is asked and answers without a change.
-use mathlib.Core.Path.{◌≡◌, refl, sym, ◌∙◌}
+use mathlib.Core.Path.{◌≡◌, refl, sym, ap, ◌∙◌}
 use mathlib.Core.Bool.{true}
 use mathlib.Core.Logic.{⊎_elim}
 use mathlib.Core.List.{List, [], ◌∷◌, Memᴰ}
@@ -14,16 +14,26 @@ use Rattle.binary_heap.specs.declared.entries.Entry.{Entry}
 use Rattle.binary_heap.specs.Order.{le, Sorted}
 use Rattle.binary_heap.proofs.Laws.{le_scores, count_mem, model_length as array-length}
 use Rattle.linked_hash_map.specs.declared.map.Record.{Record}
+use Rattle.linked_hash_map.specs.declared.map.Unfit.{Unfit}
+use Rattle.linked_hash_map.specs.Map as map
+use Rattle.linked_hash_map.specs.Calls.{Finding, Reading}
 use Rattle.linked_hash_map.proofs.Putting.{model_length}
+use Rattle.limits.specs.Limits.{heap_limits}
+use Rattle.std.specs.Prelude.{Option, None, Some, Result, Ok}
+use lib.ListN.{length}
 use Rattle.lazy_heap.specs.declared.heap.LazyMinHeap.{LazyMinHeap}
 use Rattle.lazy_heap.specs.Words.{part}
-use Rattle.lazy_heap_model.specs.Model.{Heap, entry_of, count_at_most, at_most}
+use Rattle.lazy_heap_model.specs.Model.{Heap, entry_of, count_at_most, at_most, held_score}
 use Rattle.lazy_heap.specs.Valid.{Valid}
-use Rattle.lazy_heap.specs.Heap.{model_of}
+use Rattle.lazy_heap.specs.Heap.{model_of, IsHeap}
+use Rattle.lazy_heap.specs.Calls.{Asking, score_of}
 use Rattle.lazy_heap.specs.Steps.{CountingEntries}
 use Rattle.lazy_heap.specs.Walks.{CountingWithin}
 use Rattle.lazy_heap.proofs.Valid.{sorted_cons}
 use Rattle.lazy_heap.proofs.Own.{live_at_most}
+use Rattle.lazy_heap.proofs.Slots.{slot_in}
+use Rattle.lazy_heap.proofs.Settling.{slot_nothing}
+use Rattle.lazy_heap.proofs.Calling.{asking_done}
 
 -- ---- no key holds at most a score
 -- where every key's is above it
@@ -53,3 +63,14 @@ pub counting_entries : {ws : List ℕ} {h : LazyMinHeap} → h.entries ≡ h.sco
 counting_entries {ws} {h} e {s} c = record {
   answer = λ p v. c.answer p ∙ live_at_most (model_of ws h) v s (array-length (part h.scores.capacity ws) h.entries ∙ e ∙ sym (model_length ws h.scores));
 }
+
+-- ---- a key's score
+module _ {ws : List ℕ} {h : LazyMinHeap} {k : ℕ} {at : Result (Option ℕ) Unfit} (ok : heap_limits h.scores.capacity (length ws) ≡ Ok tt) (find : Finding ws h.scores k at) where
+  slot_is : {slot : Option ℕ} → slot_in at ≡ slot → IsHeap ws h → map.slot_of ws h.scores k ≡ slot
+  slot_is q is = sym (ap slot_in (find.answer is.parts.scores)) ∙ q
+
+  pub score_told : {s : ℕ} {r : Record} → slot_in at ≡ Some s → Reading ws h.scores s r → Asking ws h (score_of k) (Ok (Some r.first))
+  score_told q read = asking_done ok (λ is. sym (ap held_score (read.keyed is.parts.scores k (slot_is q is))))
+
+  pub score_none : slot_in at ≡ None → Asking ws h (score_of k) (Ok None)
+  score_none q = asking_done ok (λ is. sym (ap held_score (slot_nothing ws h.scores k (slot_is q is))))

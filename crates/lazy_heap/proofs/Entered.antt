@@ -107,6 +107,7 @@ module _ {ws : List ℕ} {h : LazyMinHeap} (room : Room (length ws) h.scores.cap
   pub popping : {r : Option Entry} → call.Popping (part h.scores.capacity ws) h.entries ys n r → Popping ws h (with_part h.scores.capacity ws ys) (with_entries h n)
   popping c = record {
     entered = entered_part ws h room ys c.kept.size (with_entries h n) refl refl refl;
+    shorter = c.shorter;
     count = λ q. c.shorter (fit_of_room q.entries.room);
     parts = λ q. parts_part ws h room ys c.kept.size (with_entries h n) refl q (c.heap q.entries);
     entries = λ q. entries_part ws h room ys c.kept.size (with_entries h n) refl ∙ c.model q.entries;

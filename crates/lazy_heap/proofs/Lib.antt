@@ -4,6 +4,7 @@ pub mod Own
 pub mod Parts
 pub mod Entered
 pub mod Settling
+pub mod Slots
 pub mod Refilling
 pub mod Downward
 pub mod Tallies

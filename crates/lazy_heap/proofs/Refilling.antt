@@ -9,7 +9,7 @@ use lib.Dec.{eqb}
 use lib.ListN.{length, get_or, take, drop, length-drop, drop_of_length-le}
 use lib.Seq.{take_all}
 use borrow.Author.Tests.{eq-eqb, eqb-true}
-use Rattle.std.specs.Prelude.{Option, Some, Result, Ok}
+use Rattle.std.specs.Prelude.{Option, Some, Result}
 use Rattle.binary_heap.specs.declared.entries.Entry.{Entry}
 use Rattle.binary_heap.specs.Order.{insert, sort}
 use Rattle.binary_heap.specs.Heap as array
@@ -19,14 +19,16 @@ use Rattle.linked_hash_map.specs.declared.map.Record.{Record}
 use Rattle.linked_hash_map.specs.declared.map.Unfit.{Unfit}
 use Rattle.linked_hash_map.specs.Model.{has, nth, with_payload, Distinct}
 use Rattle.linked_hash_map.specs.Map as map
-use Rattle.linked_hash_map.specs.Calls.{Reading, Writing, Ending, Previous}
-use Rattle.linked_hash_map.proofs.Laws.{place_taken, map_distinct}
+use Rattle.linked_hash_map.specs.Calls.{Writing, Ending}
+use Rattle.linked_hash_map.proofs.Laws.{map_distinct}
 use Rattle.linked_hash_map.proofs.Putting.{model_length}
 use Rattle.lazy_heap.specs.declared.heap.LazyMinHeap.{LazyMinHeap}
 use Rattle.lazy_heap.specs.Words.{part}
 use Rattle.lazy_heap_model.specs.Model.{entry_of, numbered}
 use Rattle.lazy_heap.specs.Heap.{held_of, entries_of, Parts}
-use Rattle.lazy_heap.specs.Steps.{Entered, Pushing, slot_number}
+use Rattle.lazy_heap.specs.Steps.{Entered, Pushing}
+use Rattle.lazy_heap.specs.Walks.{RecordAt, SlotBefore}
+use Rattle.lazy_heap.proofs.Slots.{slot_in}
 use Rattle.lazy_heap.proofs.Settling.{entered_then, entered_same}
 
 -- the records from a place on
@@ -36,14 +38,6 @@ nth_drop i [] r q = cc
 nth_drop zero (x ∷ l) r q = let same : x ≡ r = cc in ap (λ (y : Record). y ∷ l) same
 nth_drop (suc i) (x ∷ l) r q = nth_drop i l r q
 
--- the slot of a place that was told
-pub told_slot : {at : Result (Option ℕ) Unfit} {t : Option ℕ} {s : ℕ} → at ≡ Ok t → at ≡ Ok (Some s) → t ≡ Some s
-told_slot p q = cc
-
--- a place that has a slot has its number
-pub at_number : {t : Option ℕ} (at : Result (Option ℕ) Unfit) (s n : ℕ) → t ≡ Some s → at ≡ Ok t → t ≡ Some (slot_number at n)
-at_number at s n q e = q ∙ sym (ap Some (rw (e, q)))
-
 sort_none : sort [] ≡ []
 unfolding sort
 sort_none = refl
@@ -52,28 +46,28 @@ sort_cons : (e : Entry) (l : List Entry) → sort (e ∷ l) ≡ insert e (sort l
 unfolding sort
 sort_cons e l = refl
 
--- so many records are still to be entered, and s is the slot of the last of them
-pub record Refilling (ws₀ : List ℕ) (h₀ : LazyMinHeap) (ws : List ℕ) (h : LazyMinHeap) (left s : ℕ) : Type 0 where
+-- so many records are still to be entered, and the slot is that of the last of them
+pub record Refilling (ws₀ : List ℕ) (h₀ : LazyMinHeap) (ws : List ℕ) (h : LazyMinHeap) (left : ℕ) (slot : Option ℕ) : Type 0 where
   pub entered : Entered ws₀ h₀ ws h
   pub parts : Parts ws₀ h₀ → Parts ws h
   pub count : Parts ws₀ h₀ → h.entries + left ≡ h₀.scores.len
   pub filled : Parts ws₀ h₀ → entries_of ws h ≡ sort (map entry_of (drop left (held_of ws₀ h₀)))
-  pub place : Parts ws₀ h₀ → 0 < left → map.slot_at ws₀ h₀.scores (left - 1) ≡ Some s
+  pub place : Parts ws₀ h₀ → 0 < left → map.slot_at ws₀ h₀.scores (left - 1) ≡ slot
 
-pub refilling_start : (ws : List ℕ) (h : LazyMinHeap) (at : Result (Option ℕ) Unfit) (n : ℕ) → h.entries ≡ 0 → Ending ws h.scores (h.scores.len - 1) at → Refilling ws h ws h h.scores.len (slot_number at n)
-refilling_start ws h at n none last = record {
+pub refilling_start : (ws : List ℕ) (h : LazyMinHeap) {at : Result (Option ℕ) Unfit} → h.entries ≡ 0 → Ending ws h.scores (h.scores.len - 1) at → Refilling ws h ws h h.scores.len (slot_in at)
+refilling_start ws h none last = record {
   entered = entered_same ws h;
   parts = λ p. p;
   count = λ p. omega arith;
   filled = λ p. ap (array.model_of (part h.scores.capacity ws)) none ∙ model_none (part h.scores.capacity ws) ∙ sym (ap (λ (l : List Record). sort (map entry_of l)) (nothing p) ∙ sort_none);
-  place = λ p b. at_number at _ n (place_taken ws h.scores (h.scores.len - 1) (omega arith)) (last.answer p.scores);
+  place = λ p b. sym (ap slot_in (last.answer p.scores));
 }
   where
     nothing : Parts ws h → drop h.scores.len (held_of ws h) ≡ []
     nothing p = drop_of_length-le (held_of ws h) {i = h.scores.len} (omega (arith, model_length ws h.scores))
 
 -- one more is entered, and the walk goes on to the one set after it
-module _ {ws₀ ws ws' : List ℕ} {h₀ h h' : LazyMinHeap} {left rest s : ℕ} (f : Refilling ws₀ h₀ ws h left s) (one : suc rest ≡ left) {x : Record} (read : Reading ws h₀.scores s x) (push : Pushing ws h (entry_of x) ws' h') {at : Result (Option ℕ) Unfit} (n : ℕ) (back : Previous ws' h₀.scores s at) where
+module _ {ws₀ ws ws' : List ℕ} {h₀ h h' : LazyMinHeap} {left rest : ℕ} {slot : Option ℕ} (f : Refilling ws₀ h₀ ws h left slot) (one : suc rest ≡ left) {x : Record} (read : RecordAt ws h₀.scores slot x) (push : Pushing ws h (entry_of x) ws' h') {on : Option ℕ} (back : SlotBefore ws' h₀.scores slot on) where
   -- the scores are those of the start
   scores_now : Parts ws₀ h₀ → map.IsMap ws h₀.scores
   scores_now p = rw f.entered.scores at (f.parts p).scores
@@ -84,15 +78,15 @@ module _ {ws₀ ws ws' : List ℕ} {h₀ h h' : LazyMinHeap} {left rest s : ℕ}
   room : Parts ws₀ h₀ → h.entries ≤ 8 * h.scores.capacity
   room p = omega (arith, f.count p, p.scores.count, p.room.some, ap (λ (m : LinkedHashMap). m.capacity) f.entered.scores)
 
-  here : (p : Parts ws₀ h₀) → map.slot_at ws₀ h₀.scores rest ≡ Some s
+  here : (p : Parts ws₀ h₀) → map.slot_at ws₀ h₀.scores rest ≡ slot
   here p = let e : left - 1 ≡ rest = omega arith in ap (map.slot_at ws₀ h₀.scores) (sym e) ∙ f.place p (omega arith)
 
   taken_from : (p : Parts ws₀ h₀) → drop rest (held_of ws₀ h₀) ≡ x ∷ drop left (held_of ws₀ h₀)
   taken_from p =
-      nth_drop rest (held_of ws₀ h₀) x (ap (nth rest) (sym (held_now p)) ∙ read.placed (scores_now p) rest (f.entered.places p rest ∙ here p))
+      nth_drop rest (held_of ws₀ h₀) x (ap (nth rest) (sym (held_now p)) ∙ read.answer (scores_now p) rest (omega (arith, f.count p)) (f.entered.places p rest ∙ here p))
       ∙ ap (λ (i : ℕ). x ∷ drop i (held_of ws₀ h₀)) one
 
-  pub refilling_on : Refilling ws₀ h₀ ws' h' rest (slot_number at n)
+  pub refilling_on : Refilling ws₀ h₀ ws' h' rest on
   refilling_on = record {
     entered = entered_then f.entered f.parts push.entered;
     parts = λ p. push.parts (f.parts p) (room p);
@@ -111,11 +105,10 @@ module _ {ws₀ ws ws' : List ℕ} {h₀ h h' : LazyMinHeap} {left rest s : ℕ}
       places_then : (p : Parts ws₀ h₀) (i : ℕ) → map.slot_at ws' h₀.scores i ≡ map.slot_at ws₀ h₀.scores i
       places_then p i = (entered_then f.entered f.parts push.entered).places p i
 
-      before : (p : Parts ws₀ h₀) → 0 < rest → map.slot_at ws₀ h₀.scores (rest - 1) ≡ Some (slot_number at n)
+      before : (p : Parts ws₀ h₀) → 0 < rest → map.slot_at ws₀ h₀.scores (rest - 1) ≡ on
       before p b =
           let e : rest - 1 + 1 ≡ rest = omega arith in
-          at_number at _ n (place_taken ws₀ h₀.scores (rest - 1) (omega (arith, f.count p)))
-          (back.answer (scores_then p) (rest - 1) (places_then p (rest - 1 + 1) ∙ ap (map.slot_at ws₀ h₀.scores) e ∙ here p) ∙ ap Ok (places_then p (rest - 1)))
+          sym (back.answer (scores_then p) (rest - 1) (omega (arith, f.count p)) (places_then p (rest - 1 + 1) ∙ ap (map.slot_at ws₀ h₀.scores) e ∙ here p) ∙ places_then p (rest - 1))
 
 -- ---- renumbering
 nth_front : (i k : ℕ) (l b : List Record) → i < k → k ≤ length l → nth i (take k l ++ b) ≡ nth i l
@@ -160,37 +153,37 @@ payload_middle x r (y ∷ a) b k d = go (eqb y.key x.key) refl (payload_middle x
     go true t ih = absurd (in_middle y r a b (eqb-true _ _ t ∙ sym k) d.0)
     go false t ih = ap (λ (m : List Record). y ∷ m) ih
 
--- so many records still have their old number, and s is the slot of the last of them
-pub record Numbering (ws₀ : List ℕ) (m : LinkedHashMap) (ws : List ℕ) (number left s : ℕ) : Type 0 where
+-- so many records still have their old number, and the slot is that of the last of them
+pub record Numbering (ws₀ : List ℕ) (m : LinkedHashMap) (ws : List ℕ) (number left : ℕ) (slot : Option ℕ) : Type 0 where
   pub size : length ws ≡ length ws₀
   pub past : (j : ℕ) → 8 * m.capacity + 58 ≤ j → get_or ws j 0 ≡ get_or ws₀ j 0
   pub within : number + left ≡ m.len
   pub scores : map.IsMap ws₀ m → map.IsMap ws m
   pub places : map.IsMap ws₀ m → (i : ℕ) → map.slot_at ws m i ≡ map.slot_at ws₀ m i
   pub renumbered : map.IsMap ws₀ m → map.model_of ws m ≡ take left (map.model_of ws₀ m) ++ numbered (drop left (map.model_of ws₀ m))
-  pub place : map.IsMap ws₀ m → 0 < left → map.slot_at ws₀ m (left - 1) ≡ Some s
+  pub place : map.IsMap ws₀ m → 0 < left → map.slot_at ws₀ m (left - 1) ≡ slot
 
-pub numbering_start : (ws : List ℕ) (m : LinkedHashMap) (at : Result (Option ℕ) Unfit) (n : ℕ) → Ending ws m (m.len - 1) at → Numbering ws m ws 0 m.len (slot_number at n)
+pub numbering_start : (ws : List ℕ) (m : LinkedHashMap) {at : Result (Option ℕ) Unfit} → Ending ws m (m.len - 1) at → Numbering ws m ws 0 m.len (slot_in at)
 unfolding numbered
-numbering_start ws m at n last = record {
+numbering_start ws m last = record {
   size = refl;
   past = λ j b. refl;
   within = omega arith;
   scores = λ is. is;
   places = λ is i. refl;
   renumbered = λ is. sym (rw (drop_of_length-le (map.model_of ws m) {i = m.len} (omega (arith, model_length ws m)), take_all m.len (map.model_of ws m) (omega (arith, model_length ws m))) (append-nil (map.model_of ws m)));
-  place = λ is b. at_number at _ n (place_taken ws m (m.len - 1) (omega arith)) (last.answer is);
+  place = λ is b. sym (ap slot_in (last.answer is));
 }
 
 -- one more gets its number
-module _ {ws₀ ws ws' : List ℕ} {m : LinkedHashMap} {number left rest s : ℕ} (f : Numbering ws₀ m ws number left s) (one : suc rest ≡ left) {x : Record} (read : Reading ws m s x) {b : Bool} (write : Writing ws m (record { key = x.key; first = x.first; second = number }) ws' b) {at : Result (Option ℕ) Unfit} (n : ℕ) (back : Previous ws' m s at) where
+module _ {ws₀ ws ws' : List ℕ} {m : LinkedHashMap} {number left rest : ℕ} {slot : Option ℕ} (f : Numbering ws₀ m ws number left slot) (one : suc rest ≡ left) {x : Record} (read : RecordAt ws m slot x) {b : Bool} (write : Writing ws m (record { key = x.key; first = x.first; second = number }) ws' b) {on : Option ℕ} (back : SlotBefore ws' m slot on) where
   abbrev y : Record
   y = record { key = x.key; first = x.first; second = number }
 
   abbrev old : List Record
   old = map.model_of ws₀ m
 
-  last_place : map.IsMap ws₀ m → map.slot_at ws₀ m rest ≡ Some s
+  last_place : map.IsMap ws₀ m → map.slot_at ws₀ m rest ≡ slot
   last_place is = let e : left - 1 ≡ rest = omega arith in ap (map.slot_at ws₀ m) (sym e) ∙ f.place is (omega arith)
 
   -- the record read is the last that has its old number
@@ -198,7 +191,7 @@ module _ {ws₀ ws ws' : List ℕ} {m : LinkedHashMap} {number left rest s : ℕ
   is_last is =
       sym (nth_front rest left old (numbered (drop left old)) (omega arith) (omega (arith, f.within, model_length ws₀ m)))
       ∙ ap (nth rest) (sym (f.renumbered is))
-      ∙ read.placed (f.scores is) rest (f.places is rest ∙ last_place is)
+      ∙ read.answer (f.scores is) rest (omega (arith, f.within)) (f.places is rest ∙ last_place is)
 
   now_is : map.IsMap ws₀ m → map.model_of ws m ≡ take rest old ++ (x ∷ numbered (drop left old))
   now_is is = f.renumbered is ∙ ap (λ (k : ℕ). take k old ++ numbered (drop left old)) (sym one) ∙ take_split rest old x (numbered (drop left old)) (is_last is)
@@ -214,7 +207,7 @@ module _ {ws₀ ws ws' : List ℕ} {m : LinkedHashMap} {number left rest s : ℕ
       ∙ ap (λ (k : ℕ). take rest old ++ (record { key = x.key; first = x.first; second = k } ∷ numbered (drop left old))) (sym c)
       ∙ ap (λ (l : List Record). take rest old ++ numbered l) (sym d)
 
-  pub numbering_on : Numbering ws₀ m ws' (number + 1) rest (slot_number at n)
+  pub numbering_on : Numbering ws₀ m ws' (number + 1) rest on
   numbering_on = record {
     size = write.kept.size ∙ f.size;
     past = λ j g. write.kept.past j g ∙ f.past j g;
@@ -225,8 +218,8 @@ module _ {ws₀ ws ws' : List ℕ} {m : LinkedHashMap} {number left rest s : ℕ
     place = before;
   }
     where
-      before : (is : map.IsMap ws₀ m) → 0 < rest → map.slot_at ws₀ m (rest - 1) ≡ Some (slot_number at n)
+      before : (is : map.IsMap ws₀ m) → 0 < rest → map.slot_at ws₀ m (rest - 1) ≡ on
       before is g =
           let e : rest - 1 + 1 ≡ rest = omega arith in
-          let now : map.slot_at ws' m (rest - 1 + 1) ≡ Some s = write.slots (f.scores is) (rest - 1 + 1) ∙ f.places is (rest - 1 + 1) ∙ ap (map.slot_at ws₀ m) e ∙ last_place is in
-          at_number at _ n (place_taken ws₀ m (rest - 1) (omega (arith, f.within))) (back.answer (write.map (f.scores is)) (rest - 1) now ∙ ap Ok (write.slots (f.scores is) (rest - 1) ∙ f.places is (rest - 1)))
+          let now : map.slot_at ws' m (rest - 1 + 1) ≡ slot = write.slots (f.scores is) (rest - 1 + 1) ∙ f.places is (rest - 1 + 1) ∙ ap (map.slot_at ws₀ m) e ∙ last_place is in
+          sym (back.answer (write.map (f.scores is)) (rest - 1) (omega (arith, f.within)) now ∙ write.slots (f.scores is) (rest - 1) ∙ f.places is (rest - 1))

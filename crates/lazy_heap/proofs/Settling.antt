@@ -2,7 +2,7 @@
 use mathlib.Core.Path.{◌≡◌, refl, sym, ap, ◌∙◌, subst}
 use mathlib.Core.Bool.{Bool, true, false, true≢false}
 use mathlib.Core.List.{List, [], ◌∷◌}
-use Prim.Native.Nat.{ℕ, ◌+◌, ◌-◌}
+use Prim.Native.Nat.{ℕ, ◌+◌}
 use native.Mathlib.Omega.{arith}
 use lib.Dec.{eqb}
 use lib.ListN.{length}
@@ -12,6 +12,7 @@ use Rattle.std.specs.Bool.{then_some}
 use Rattle.binary_heap.specs.declared.entries.Entry.{Entry}
 use Rattle.binary_heap.specs.Heap.{first, rest}
 use Rattle.binary_heap.proofs.Laws.{model_length}
+use Rattle.rings.proofs.Counts.{by_lt}
 use Rattle.linked_hash_map.specs.declared.map.LinkedHashMap.{LinkedHashMap}
 use Rattle.linked_hash_map.specs.declared.map.Record.{Record}
 use Rattle.linked_hash_map.specs.Model.{lookup}
@@ -21,7 +22,7 @@ use Rattle.lazy_heap.specs.declared.heap.LazyMinHeap.{LazyMinHeap}
 use Rattle.lazy_heap.specs.Words.{part, Room}
 use Rattle.lazy_heap_model.specs.Model.{live, stale_before, from_live}
 use Rattle.lazy_heap.specs.Heap.{held_of, entries_of, Parts}
-use Rattle.lazy_heap.specs.Steps.{Entered, Popping, settled_by, Settled, Discarding}
+use Rattle.lazy_heap.specs.Steps.{Entered, in_words, Popping, settled_by, Settled, Discarding}
 use Rattle.lazy_heap.specs.Walks.{LivingAt}
 
 -- ---- a key's slot, and whether an entry is live
@@ -108,12 +109,12 @@ entered_same ws h = record { scores = refl; seq = refl; factor = refl; held = λ
 pub record Settling (ws₀ : List ℕ) (h₀ : LazyMinHeap) (ws : List ℕ) (h : LazyMinHeap) (d : ℕ) : Type 0 where
   pub entered : Entered ws₀ h₀ ws h
   pub parts : Parts ws₀ h₀ → Parts ws h
-  pub left : Parts ws₀ h₀ → h.entries ≡ h₀.entries - d
+  pub left : h.entries + d ≡ h₀.entries
   pub ahead : Parts ws₀ h₀ → from_live (held_of ws₀ h₀) (entries_of ws h) ≡ from_live (held_of ws₀ h₀) (entries_of ws₀ h₀)
   pub gone : Parts ws₀ h₀ → d + stale_before (held_of ws₀ h₀) (entries_of ws h) ≡ stale_before (held_of ws₀ h₀) (entries_of ws₀ h₀)
 
 pub settling_start : (ws : List ℕ) (h : LazyMinHeap) → Settling ws h ws h 0
-settling_start ws h = record { entered = entered_same ws h; parts = λ p. p; left = λ p. omega arith; ahead = λ p. refl; gone = λ p. omega arith }
+settling_start ws h = record { entered = entered_same ws h; parts = λ p. p; left = omega arith; ahead = λ p. refl; gone = λ p. omega arith }
 
 module _ {ws₀ ws : List ℕ} {h₀ h : LazyMinHeap} {d : ℕ} (s : Settling ws₀ h₀ ws h d) where
   abbrev es : List Entry
@@ -134,11 +135,19 @@ module _ {ws₀ ws : List ℕ} {h₀ h : LazyMinHeap} {d : ℕ} (s : Settling ws
         go (Some e) q f = stale_first held₀ es e q (ap (λ (l : List Record). live l e) (sym (s.entered.held p)) ∙ sym (f ∙ ap (settled_by ws h) q))
         go None q f = absurd (true≢false (sym (f ∙ ap (settled_by ws h) q)))
 
+    -- some entry is there, else none would be stale
+    one : h'.entries + 1 ≡ h.entries
+    one = go (in_words ws h) refl
+      where
+        go : (b : Bool) → in_words ws h ≡ b → h'.entries + 1 ≡ h.entries
+        go true q = by_lt 0 h.entries (λ a. omega (arith, pop.shorter q)) (λ a. absurd (true≢false (sym (stale.none (omega arith)))))
+        go false q = absurd (true≢false (sym (stale.refused q)))
+
     pub settling_on : Settling ws₀ h₀ ws' h' (d + 1)
     settling_on = record {
       entered = entered_then s.entered s.parts pop.entered;
       parts = λ p. pop.parts (s.parts p);
-      left = λ p. omega (arith, pop.count (s.parts p), s.left p);
+      left = omega (arith, one, s.left);
       ahead = λ p. ap (from_live held₀) (pop.entries (s.parts p)) ∙ sym (first_gone p).0 ∙ s.ahead p;
       gone = λ p. omega (arith, s.gone p, (first_gone p).1, ap (stale_before held₀) (pop.entries (s.parts p)));
     }
@@ -147,6 +156,7 @@ module _ {ws₀ ws : List ℕ} {h₀ h : LazyMinHeap} {d : ℕ} (s : Settling ws
   ended : (Parts ws₀ h₀ → (from_live held₀ es ≡ es) × (stale_before held₀ es ≡ 0)) → Discarding ws₀ h₀ ws h d
   ended last = record {
     entered = s.entered;
+    left = s.left;
     parts = s.parts;
     entries = λ p. sym (last p).0 ∙ s.ahead p;
     discarded = λ p. omega (arith, s.gone p, (last p).1);
@@ -160,7 +170,7 @@ module _ {ws₀ ws : List ℕ} {h₀ h : LazyMinHeap} {d : ℕ} (s : Settling ws
       go p None q f = none_left held₀ es (first_none es q)
 
   pub settled_empty : d ≡ h₀.entries → Discarding ws₀ h₀ ws h h₀.entries
-  settled_empty z = subst (λ (n : ℕ). Discarding ws₀ h₀ ws h n) z (ended (λ p. none_left held₀ es (no_entries es (model_length (part h.scores.capacity ws) h.entries ∙ omega (arith, s.left p)))))
+  settled_empty z = subst (λ (n : ℕ). Discarding ws₀ h₀ ws h n) z (ended (λ p. none_left held₀ es (no_entries es (model_length (part h.scores.capacity ws) h.entries ∙ omega (arith, s.left)))))
 
 -- the limits hold after a step as before
 pub room_entered : {ws ws' : List ℕ} {h r : LazyMinHeap} → Entered ws h ws' r → Room (length ws) h.scores.capacity → Room (length ws') r.scores.capacity

@@ -48,7 +48,7 @@ parts_emptied : {ws : List ℕ} {h : LazyMinHeap} → Parts ws h → Parts ws (e
 parts_emptied {ws} {h} p = record { room = p.room; scores = p.scores; entries = heap_none (part h.scores.capacity ws) }
 
 -- where the walk has come to its end, as it does on the parts of a heap
-pub rebuilding : {ws ws' : List ℕ} {h h' : LazyMinHeap} {left s d : ℕ} → Refilling ws (emptied h) ws' h' left s → d ≡ h.entries - h.scores.len → (Parts ws h → left ≡ 0) → Rebuilding ws h ws' h' d
+pub rebuilding : {ws ws' : List ℕ} {h h' : LazyMinHeap} {left d : ℕ} {slot : Option ℕ} → Refilling ws (emptied h) ws' h' left slot → d ≡ h.entries - h.scores.len → (Parts ws h → left ≡ 0) → Rebuilding ws h ws' h' d
 rebuilding {ws} {h = h} f discarded none = record {
   entered = record {
     scores = f.entered.scores;
@@ -75,7 +75,7 @@ rebuilding_none ws h over discarded = record {
 }
 
 -- ---- renumbering
-pub numbering : {ws ws' : List ℕ} {m : LinkedHashMap} {number left s : ℕ} → Numbering ws m ws' number left s → (map.IsMap ws m → left ≡ 0) → Numbered ws m ws'
+pub numbering : {ws ws' : List ℕ} {m : LinkedHashMap} {number left : ℕ} {slot : Option ℕ} → Numbering ws m ws' number left slot → (map.IsMap ws m → left ≡ 0) → Numbered ws m ws'
 numbering {ws} {ws'} {m} f none = record {
   scores = f.scores;
   held = λ is. f.renumbered is ∙ ap (λ (i : ℕ). take i (map.model_of ws m) ++ numbered (drop i (map.model_of ws m))) (none is);

@@ -3,27 +3,20 @@
 use Rattle.std.specs.Prelude.{◌≡◌, Bool, true, false, cond, List, ℕ, ◌+◌, ◌-◌, ◌*◌, ◌^◌, ◌<◌, ◌≤◌, eqb, leb, length, get_or, Option, None, Some, Result, Ok, Err}
 use Rattle.binary_heap.specs.declared.entries.Entry.{Entry}
 use Rattle.binary_heap.specs.Order.{insert, at_most}
-use Rattle.binary_heap.specs.Heap.{first, rest}
+use Rattle.binary_heap.specs.Heap.{fit, first, rest}
 use Rattle.cells.specs.declared.Probe.{Probe}
 use Rattle.cells.specs.declared.Probe.TheVariants.{At, Free, Full}
 use Rattle.linked_hash_map.specs.declared.map.LinkedHashMap.{LinkedHashMap}
 use Rattle.linked_hash_map.specs.declared.map.Record.{Record}
 use Rattle.linked_hash_map.specs.declared.map.PutError.{PutError}
-use Rattle.linked_hash_map.specs.declared.map.Unfit.{Unfit}
 use Rattle.linked_hash_map.specs.Model.{lookup}
 use Rattle.linked_hash_map.specs.Map.{slot_at}
 use Rattle.linked_hash_map.specs.Map as map
 use Rattle.linked_hash_map.specs.Calls.{Putting, Removing}
 use Rattle.lazy_heap.specs.declared.heap.LazyMinHeap.{LazyMinHeap}
-use Rattle.lazy_heap.specs.Words.{start, Kept}
+use Rattle.lazy_heap.specs.Words.{start, part, Kept}
 use Rattle.lazy_heap_model.specs.Model.{live, stale_before, from_live, surplus, live_entries, numbered, renumbered, too_many, is_full, before_push, maybe_rebuilt, pushed, removed, held_score}
 use Rattle.lazy_heap.specs.Heap.{held_of, entries_of, model_of, Parts}
-
--- the number of a slot that was told, or another where there is none
-abbrev pub slot_number : Result (Option ℕ) Unfit → ℕ → ℕ
-slot_number (Ok (Some s)) none = s
-slot_number (Ok None) none = none
-slot_number (Err e) none = none
 
 -- the entries alone changed
 pub record Entered (ws : List ℕ) (h : LazyMinHeap) (ws' : List ℕ) (h' : LazyMinHeap) : Type 0 where
@@ -41,9 +34,14 @@ pub record Pushing (ws : List ℕ) (h : LazyMinHeap) (e : Entry) (ws' : List ℕ
   pub parts : Parts ws h → h.entries ≤ 8 * h.scores.capacity → Parts ws' h'
   pub entries : Parts ws h → h.entries ≤ 8 * h.scores.capacity → entries_of ws' h' ≡ insert e (entries_of ws h)
 
+-- whether the entries fit their words
+abbrev pub in_words : List ℕ → LazyMinHeap → Bool
+in_words ws h = fit h.entries (length (part h.scores.capacity ws))
+
 -- `pop`
 pub record Popping (ws : List ℕ) (h : LazyMinHeap) (ws' : List ℕ) (h' : LazyMinHeap) : Type 0 where
   pub entered : Entered ws h ws' h'
+  pub shorter : in_words ws h ≡ true → h'.entries ≡ h.entries - 1
   pub count : Parts ws h → h'.entries ≡ h.entries - 1
   pub parts : Parts ws h → Parts ws' h'
   pub entries : Parts ws h → entries_of ws' h' ≡ rest (entries_of ws h)
@@ -62,6 +60,8 @@ TakingTop ws h None ws' h' = (h' ≡ h) × (ws' ≡ ws)
 
 -- `top`
 pub record Peeking (ws : List ℕ) (h : LazyMinHeap) (r : Option Entry) : Type 0 where
+  pub refused : in_words ws h ≡ false → r ≡ None
+  pub none : h.entries ≡ 0 → r ≡ None
   pub answer : Parts ws h → r ≡ first (entries_of ws h)
 
 -- `count_entries`
@@ -78,11 +78,14 @@ settled_by ws h None = true
 
 -- `is_settled`
 pub record Settled (ws : List ℕ) (h : LazyMinHeap) (r : Bool) : Type 0 where
+  pub refused : in_words ws h ≡ false → r ≡ true
+  pub none : h.entries ≡ 0 → r ≡ true
   pub answer : Parts ws h → r ≡ settled_by ws h (first (entries_of ws h))
 
 -- `settle`: stale entries gone from the top, and how many
 pub record Discarding (ws : List ℕ) (h : LazyMinHeap) (ws' : List ℕ) (h' : LazyMinHeap) (d : ℕ) : Type 0 where
   pub entered : Entered ws h ws' h'
+  pub left : h'.entries + d ≡ h.entries
   pub parts : Parts ws h → Parts ws' h'
   pub entries : Parts ws h → entries_of ws' h' ≡ from_live (held_of ws h) (entries_of ws h)
   pub discarded : Parts ws h → d ≡ stale_before (held_of ws h) (entries_of ws h)

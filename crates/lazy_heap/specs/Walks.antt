@@ -6,12 +6,21 @@ use Rattle.binary_heap.specs.Order.{count}
 use Rattle.binary_heap.specs.Heap as array
 use Rattle.linked_hash_map.specs.declared.map.LinkedHashMap.{LinkedHashMap}
 use Rattle.linked_hash_map.specs.declared.map.Record.{Record}
+use Rattle.linked_hash_map.specs.Model.{nth}
 use Rattle.linked_hash_map.specs.Map as map
 use Rattle.lazy_heap.specs.declared.heap.LazyMinHeap.{LazyMinHeap}
 use Rattle.lazy_heap.specs.Words.{part}
 use Rattle.lazy_heap_model.specs.Model.{entry_of, live, count_at_most, at_most}
 use Rattle.lazy_heap.specs.Valid.{Falling, Valid}
 use Rattle.lazy_heap.specs.Heap.{model_of, Parts}
+
+-- `record_at`: the record at a place, whose slot was told
+pub record RecordAt (ws : List ℕ) (m : LinkedHashMap) (slot : Option ℕ) (r : Record) : Type 0 where
+  pub answer : map.IsMap ws m → (i : ℕ) → i < m.len → map.slot_at ws m i ≡ slot → nth i (map.model_of ws m) ≡ Some r
+
+-- `slot_before`: the slot of the place before one
+pub record SlotBefore (ws : List ℕ) (m : LinkedHashMap) (slot r : Option ℕ) : Type 0 where
+  pub answer : map.IsMap ws m → (i : ℕ) → i + 1 < m.len → map.slot_at ws m (i + 1) ≡ slot → r ≡ map.slot_at ws m i
 
 -- `count_at_most`
 pub record CountingAtMost (ws : List ℕ) (m : LinkedHashMap) (score r : ℕ) : Type 0 where

@@ -1,8 +1,12 @@
-// The heap's calls. A public call tests the limits, and its private steps may count on them. (The words are the caller's, lent
-// to each call: so no struct holds them with the numbers, and a step requires that they have room.)
+// The heap's calls. A public call tests the limits, and its private steps may count on them. (The words are the
+// caller's, lent to each call: so no struct holds them with the numbers, and a step requires that they have room.)
+//
+// Where the heap has room the map refuses nothing: hence `unwrap`, or `unwrap_or(None)`, which reads as no key.
+// Calls that look alike read other fields or promise other things.
 #![tactic(auto, using(crate::proofs::Calling::no_heap, crate::proofs::Calling::limits_room))]
 
 ghost use Rattle.std.specs.Prelude.{◌≡◌, ◌-◌, ◌^◌, ◌*◌, ◌<◌, length, ltb};
+ghost use Rattle.limits.specs.Limits.{heap_limits};
 ghost use Rattle.linked_hash_map.specs.Calls.{place_of};
 ghost use Rattle.lazy_heap.specs.Words.{Room};
 ghost use Rattle.lazy_heap_model.specs.Model.{at_least_one, factor_of, len, heap_len, at_most};
@@ -10,7 +14,6 @@ ghost use Rattle.lazy_heap.specs.Calls.{Opening, Resetting, Asking, is_empty, sc
 ghost use Rattle.lazy_heap.specs.Steps.{best_of, within, is_over, Storing, TakingKey, Living, Pushing, Popping, Peeking, CountingEntries, TakingTop, Settled, Discarding, Rebuilding, Renumbering, Fitting, Trimming, Holding};
 ghost use Rattle.lazy_heap.specs.Walks.{CountingWithin, Sound, Agreeing};
 
-use crate::walks::slot_number;
 use crate::{layout, walks};
 use binary_heap::Entry;
 use cells::Probe;
@@ -51,7 +54,8 @@ fn is_over(place: Probe, len: usize, capacity: usize) -> bool
     }
 }
 
-// What `put` does at the place of its key, told by the score that it replaces.
+// What `put` does at the place of its key, told by the score that it replaces. (This and `take_key` go on at the
+// place for one word: the map's `put` and `remove` answer a whole record, which would go through memory.)
 fn store_at(map: &mut LinkedHashMap, words: &mut [u64], place: Probe, item: Record) -> Option<u64>
     requires { place_of words.old map.old item.key ≡ Ok place }
     ensures { Storing words.old map.old item words.new map.new result }
@@ -79,17 +83,20 @@ fn take_key(map: &mut LinkedHashMap, words: &mut [u64], key: u64) -> Option<u64>
     }
 }
 
+// The pair that callers see. (No `From`: it would stand away from the definition.)
 fn best_of(top: Option<Entry>) -> Option<(u64, u64)>
     ensures { result ≡ best_of top }
 {
     top.map(|e| (e.key, e.score))
 }
 
-// The entry, if its score is at most this one.
+// The entry, if its score is at most this one. No score is above the largest word.
 fn within(top: Option<Entry>, score: u64) -> Option<Entry>
-    ensures { result ≡ within score top }
+    ensures within { result ≡ within score top }
+    ensures all { score ≡ 2 ^ 64 - 1 → result ≡ top }
 {
-    top.filter(|e| e.score <= score)
+    let e = top?;
+    (e.score <= score).then_some(e)
 }
 
 impl LazyMinHeap {
@@ -124,8 +131,15 @@ impl LazyMinHeap {
     pub fn auto_rebuild_factor(self, words: &[u64]) -> Result<usize, Refusal>
         ensures { Asking words.now self factor_of result }
     {
-        limits::heap(self.scores.capacity, words.len())?;
+        self.admitted(words.len())?;
         Ok(self.factor)
+    }
+
+    // Refusals 1 and 2, which every call on a heap has in common.
+    fn admitted(self, size: usize) -> Result<(), Refusal>
+        ensures { result ≡ heap_limits self.scores.capacity size }
+    {
+        limits::heap(self.scores.capacity, size)
     }
 
     // ---- how many
@@ -133,14 +147,14 @@ impl LazyMinHeap {
     pub fn len(self, words: &[u64]) -> Result<usize, Refusal>
         ensures { Asking words.now self len result }
     {
-        limits::heap(self.scores.capacity, words.len())?;
+        self.admitted(words.len())?;
         Ok(self.scores.len)
     }
 
     pub fn is_empty(self, words: &[u64]) -> Result<bool, Refusal>
         ensures { Asking words.now self is_empty result }
     {
-        limits::heap(self.scores.capacity, words.len())?;
+        self.admitted(words.len())?;
         Ok(self.scores.len == 0)
     }
 
@@ -148,7 +162,7 @@ impl LazyMinHeap {
     pub fn heap_len(self, words: &[u64]) -> Result<usize, Refusal>
         ensures { Asking words.now self heap_len result }
     {
-        limits::heap(self.scores.capacity, words.len())?;
+        self.admitted(words.len())?;
         Ok(self.entries)
     }
 
@@ -156,20 +170,19 @@ impl LazyMinHeap {
     pub fn count_at_most(self, words: &[u64], score: u64) -> Result<usize, Refusal>
         ensures { Asking words.now self (at_most score) result }
     {
-        limits::heap(self.scores.capacity, words.len())?;
+        self.admitted(words.len())?;
         Ok(self.count_within(words, score))
     }
 
     // ---- scores
 
+    #[tactic(auto, using(crate::proofs::Calling::no_heap, crate::proofs::Asking::score_told, crate::proofs::Asking::score_none))]
     pub fn score_of(self, words: &[u64], key: u64) -> Result<Option<u64>, Refusal>
         ensures { Asking words.now self (score_of key) result }
     {
-        limits::heap(self.scores.capacity, words.len())?;
-        match self.scores.find(words, key) {
-            Ok(Some(s)) => Ok(Some(self.scores.record(words, s).first)),
-            _ => Ok(None),
-        }
+        self.admitted(words.len())?;
+        let slot = self.scores.find(words, key).unwrap_or(None);
+        Ok(slot.map(|s| self.scores.record(words, s).first))
     }
 
     // Holds a score for a key, in the place of the old one, which is the answer.
@@ -181,7 +194,7 @@ impl LazyMinHeap {
     ) -> Result<Counted<Option<u64>>, Refusal>
         ensures { Updating words.old self.old key score words.new self.new result }
     {
-        limits::heap(self.scores.capacity, words.len())?;
+        self.admitted(words.len())?;
         let place = self.scores.seek(words, key).unwrap();
         if is_over(place, self.scores.len, self.scores.capacity) {
             return Err(Refusal::KeyLimitReached);
@@ -201,7 +214,7 @@ impl LazyMinHeap {
     pub fn remove(&mut self, words: &mut [u64], key: u64) -> Result<Counted<Option<u64>>, Refusal>
         ensures { Removing words.old self.old key words.new self.new result }
     {
-        limits::heap(self.scores.capacity, words.len())?;
+        self.admitted(words.len())?;
         let answer = take_key(&mut self.scores, words, key);
         Ok(Counted {
             answer,
@@ -213,7 +226,7 @@ impl LazyMinHeap {
     pub fn peek_best(&mut self, words: &mut [u64]) -> Result<Counted<Option<(u64, u64)>>, Refusal>
         ensures { PeekingBest words.old self.old words.new self.new result }
     {
-        limits::heap(self.scores.capacity, words.len())?;
+        self.admitted(words.len())?;
         let discarded = self.settle(words);
         let answer = best_of(self.top(words));
         Ok(Counted { answer, discarded })
@@ -222,14 +235,7 @@ impl LazyMinHeap {
     pub fn pop_best(&mut self, words: &mut [u64]) -> Result<Counted<Option<(u64, u64)>>, Refusal>
         ensures { PoppingBest words.old self.old words.new self.new result }
     {
-        limits::heap(self.scores.capacity, words.len())?;
-        let discarded = self.settle(words);
-        let best = self.top(words);
-        self.take_top(words, best);
-        Ok(Counted {
-            answer: best_of(best),
-            discarded,
-        })
+        self.take_best(words, u64::MAX)
     }
 
     // The same, where that key's score is at most this one. Else it answers that there is none, and the key stays.
@@ -240,7 +246,21 @@ impl LazyMinHeap {
     ) -> Result<Counted<Option<(u64, u64)>>, Refusal>
         ensures { PoppingAtMost words.old self.old score words.new self.new result }
     {
-        limits::heap(self.scores.capacity, words.len())?;
+        self.take_best(words, score)
+    }
+
+    // Both pops: no score is above the largest word. (That this one takes the best, whatever its score, is
+    // promised here: in the contract of `pop_at_most` the words are numbers of any size, so that it does not
+    // follow there.)
+    fn take_best(
+        &mut self,
+        words: &mut [u64],
+        score: u64,
+    ) -> Result<Counted<Option<(u64, u64)>>, Refusal>
+        ensures within { PoppingAtMost words.old self.old score words.new self.new result }
+        ensures all { score ≡ 2 ^ 64 - 1 → PoppingBest words.old self.old words.new self.new result }
+    {
+        self.admitted(words.len())?;
         let discarded = self.settle(words);
         let best = within(self.top(words), score);
         self.take_top(words, best);
@@ -255,7 +275,7 @@ impl LazyMinHeap {
     pub fn rebuild(&mut self, words: &mut [u64]) -> Result<usize, Refusal>
         ensures { RebuildingNow words.old self.old words.new self.new result }
     {
-        limits::heap(self.scores.capacity, words.len())?;
+        self.admitted(words.len())?;
         Ok(self.rebuild_within(words))
     }
 
@@ -270,7 +290,7 @@ impl LazyMinHeap {
     pub fn renumber_seqs(&mut self, words: &mut [u64]) -> Result<usize, Refusal>
         ensures { RenumberingNow words.old self.old words.new self.new result }
     {
-        limits::heap(self.scores.capacity, words.len())?;
+        self.admitted(words.len())?;
         Ok(self.renumber_within(words))
     }
 
@@ -278,7 +298,7 @@ impl LazyMinHeap {
     pub fn clear(&mut self, words: &mut [u64]) -> Result<usize, Refusal>
         ensures { Clearing words.old self.old words.new self.new result }
     {
-        limits::heap(self.scores.capacity, words.len())?;
+        self.admitted(words.len())?;
         let discarded = self.surplus();
         self.scores.clear(words).unwrap();
         self.entries = 0;
@@ -291,9 +311,7 @@ impl LazyMinHeap {
     pub fn check(self, words: &[u64]) -> bool
         ensures { Checking words.now self result }
     {
-        limits::heap(self.scores.capacity, words.len()).is_ok()
-            && self.is_sound(words)
-            && self.is_valid(words)
+        self.admitted(words.len()).is_ok() && self.is_sound(words) && self.is_valid(words)
     }
 
     // The numbers are within their limits, and the words hold a map of scores and a binary heap of entries.
@@ -371,10 +389,7 @@ impl LazyMinHeap {
         requires { Room (length words.now) self.scores.capacity }
         ensures { Settled words.now self result }
     {
-        match self.top(words) {
-            Some(e) => self.is_live(words, e),
-            None => true,
-        }
+        self.top(words).is_none_or(|e| self.is_live(words, e))
     }
 
     // Discards stale entries from the top, up to the first live one, and answers how many.
@@ -392,25 +407,24 @@ impl LazyMinHeap {
         entries
     }
 
-    // How many keys hold at most this score. Each has an entry, and no entry's score is below that of the first, live or
-    // stale: where that is above this one the answer is 0, without a walk. Where there are as many entries as keys none is
-    // stale, and the entries are counted: they stand side by side, while the keys are links apart.
+    // How many keys hold at most this score. Each has an entry, and no entry's score is below that of the
+    // first, live or stale: where that is above this one the answer is 0, without a walk. Where there are as
+    // many entries as keys none is stale, and the entries are counted: they stand side by side, while the keys
+    // are links apart.
     fn count_within(self, words: &[u64], score: u64) -> usize
         requires { Room (length words.now) self.scores.capacity }
         ensures { CountingWithin words.now self score result }
     {
-        match self.top(words) {
-            Some(e) => {
-                if score < e.score {
-                    return 0;
-                }
-                if self.entries == self.scores.len {
-                    return self.count_entries(words, score);
-                }
-                walks::count_at_most(words, self.scores, score)
-            }
-            None => 0,
+        let Some(e) = self.top(words) else {
+            return 0;
+        };
+        if score < e.score {
+            return 0;
         }
+        if self.entries == self.scores.len {
+            return self.count_entries(words, score);
+        }
+        walks::count_at_most(words, self.scores, score)
     }
 
     // ---- rebuilding and renumbering
@@ -422,9 +436,9 @@ impl LazyMinHeap {
         self.entries.saturating_sub(self.scores.len)
     }
 
-    // The live entries alone, pushed in sequence order: the walk is from the earliest set to the latest. It has a turn for
-    // each key held, so that it is not begun on numbers with more keys than the limit, which are no heap's. It answers how
-    // many entries there were more.
+    // The live entries alone, pushed in sequence order: the walk is from the earliest set to the latest. It has
+    // a turn for each key held, so that it is not begun on numbers with more keys than the limit, which are no
+    // heap's. It answers how many entries there were more.
     fn rebuild_within(&mut self, words: &mut [u64]) -> usize
         requires { Room (length words.old) self.old.scores.capacity }
         ensures { Rebuilding words.old self.old words.new self.new result }
@@ -435,9 +449,9 @@ impl LazyMinHeap {
             return discarded;
         }
         self.entries = 0;
-        let mut s = slot_number(scores.last(words), scores.capacity);
+        let mut slot = scores.last(words).unwrap_or(None);
         for _ in 0..scores.len {
-            let r = scores.record(words, s);
+            let r = walks::record_at(words, scores, slot);
             self.push(
                 words,
                 Entry {
@@ -446,7 +460,7 @@ impl LazyMinHeap {
                     key: r.key,
                 },
             );
-            s = slot_number(scores.previous(words, s), scores.capacity);
+            slot = walks::slot_before(words, scores, slot);
         }
         discarded
     }
@@ -485,7 +499,8 @@ impl LazyMinHeap {
 
     // ---- setting a score
 
-    // The place of a key after `fit_number`: looked for again only where that renumbered, since it else left the words.
+    // The place of a key after `fit_number`: looked for again only where that renumbered, since else the words are
+    // those of before.
     fn place_after(self, words: &[u64], seq: u64, place: Probe, key: u64) -> Probe
         requires room { Room (length words.now) self.scores.capacity }
         requires kept { seq < 2 ^ 64 - 1 → place_of words.now self.scores key ≡ Ok place }

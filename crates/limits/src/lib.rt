@@ -1,7 +1,7 @@
 // What each layer refuses by its numbers alone: a limit out of range, too few words, a factor too large.
 //
-// Every call of a layer asks here first. The numbers are tested in the order of their refusals, 1, 2 and 5, and every function
-// takes any of them.
+// Every call of a layer asks here first. The numbers are tested in the order of their refusals, 1, 2 and 5, and
+// every function takes any of them.
 //
 //   layer            limits                            words
 //   map              capacity 0..4,096                 8 capacity + 58

@@ -31,7 +31,7 @@ pub fn list(capacity: usize, size: usize) -> Result<(), Refusal>
 pub fn heap(limit: usize, size: usize) -> Result<(), Refusal>
     ensures { result ≡ heap_limits limit size }
 {
-    if limit == 0 || 4096 < limit {
+    if !(1..=4096).contains(&limit) {
         return Err(Refusal::LimitOutOfRange);
     }
     if size < 64 + 32 * limit {
@@ -57,7 +57,7 @@ pub fn heap_with_factor(limit: usize, size: usize, factor: usize) -> Result<(), 
 pub fn book(capacity: usize, limit: usize, size: usize) -> Result<(), Refusal>
     ensures { result ≡ book_limits capacity limit size }
 {
-    if 4096 < capacity || limit == 0 || 4096 < limit {
+    if 4096 < capacity || !(1..=4096).contains(&limit) {
         return Err(Refusal::LimitOutOfRange);
     }
     if size < 128 + 8 * capacity + 32 * limit {

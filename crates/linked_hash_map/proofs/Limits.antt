@@ -1,20 +1,13 @@
 -- The test of the limits, at the head of every call.
-use mathlib.Core.Path.{◌≡◌, refl, sym, ◌∙◌}
-use mathlib.Core.Bool.{Bool, true, false, not, true≢false, ◌&&◌}
+use mathlib.Core.Path.{◌≡◌, refl, sym}
+use mathlib.Core.Bool.{Bool, true, false, true≢false, ◌&&◌}
 use Prim.Native.Nat.{ℕ, ◌+◌, ◌*◌}
 use lib.Dec.{leb}
-use borrow.Author.Tests.{leb-true, not-true, not-false}
+use borrow.Author.Tests.{leb-true}
 use Rattle.limits.specs.Limits.{map_fits}
 use Rattle.linked_hash_map.specs.Words.{Room}
 
--- the test's two ways, as the code takes them
-pub no_room : {b f : Bool} → b ≡ f → not b ≡ true → f ≡ false
-no_room {b} e h = sym e ∙ not-true b h
-
-pub room : {b f : Bool} → b ≡ f → not b ≡ false → f ≡ true
-room {b} e h = sym e ∙ not-false b h
-
--- the second, as facts
+-- what it says, as facts
 pub is_room : (n l : ℕ) → map_fits n l ≡ true → Room l n
 unfolding map_fits
 is_room n l e = go (leb n 4096) refl (leb (8 * n + 58) l) refl e

@@ -1,10 +1,10 @@
 -- The first cell passed that holds no record, in a probe: none, or one of the cells. `probe_from` counts none as the cell
 -- past the last.
-use mathlib.Core.Path.{◌≡◌, refl, sym}
+use mathlib.Core.Path.{◌≡◌, refl, sym, ◌∙◌}
 use mathlib.Core.List.{List}
 use Prim.Native.Nat.{ℕ, ◌-◌, ◌<◌, ◌≤◌}
 use native.Mathlib.Omega.{arith}
-use Rattle.std.specs.Prelude.{Option, Some, None, IfSome, unwrap_or}
+use Rattle.std.specs.Prelude.{Option, Some, None, IfSome, MatchOption, unwrap_or}
 use Rattle.std.specs.Option.{option_or}
 use Rattle.cells.specs.declared.Probe.{Probe}
 use Rattle.cells.specs.declared.Probe.TheVariants.{Free, Full}
@@ -26,11 +26,10 @@ module _ (ws : List ℕ) (n k f p : ℕ) where
   passes (Some b) low h q r nx inv z l = turn_had ws n k f p b h q b r nx inv refl z l low
   passes None low h q r nx inv z l = turn_new ws n k f p (cell_count n) h q p r nx inv refl z l (omega arith)
 
-  pub ends_free : (b : ℕ) → f ≤ 0 → b < cell_count n → Free b ≡ probe_from ws n k f p b
-  ends_free b h low = out_had ws n k f p b h low
-
-  pub ends_full : f ≤ 0 → Full ≡ probe_from ws n k f p (cell_count n)
-  ends_full h = out_full ws n k f p (cell_count n) h (omega arith)
+  -- no cell left
+  pub ends : (o : Option ℕ) → IsCell n o → f ≤ 0 → (r : Probe) → MatchOption o (r ≡ Full) (λ b. r ≡ Free b) → r ≡ probe_from ws n k f p (unwrap_or o (cell_count n))
+  ends (Some b) low h r e = e ∙ out_had ws n k f p b h low
+  ends None low h r e = e ∙ out_full ws n k f p (cell_count n) h (omega arith)
 
 pub is_cell : (n p : ℕ) (o : Option ℕ) → IsCell n o → p < cell_count n → IsCell n (option_or o (Some p))
 is_cell n p (Some b) low h = low

@@ -2,7 +2,7 @@
 use mathlib.Core.Path.{◌≡◌, refl, sym, ap, ◌∙◌}
 use mathlib.Core.Bool.{Bool, true, false, cond}
 use mathlib.Core.List.{List, [], ◌∷◌, ◌++◌}
-use Prim.Native.Nat.{ℕ, zero, suc, ◌+◌, ◌-◌, ◌*◌, ◌^◌, ◌<◌, ◌≤◌}
+use Prim.Native.Nat.{ℕ, zero, suc, ◌+◌, ◌-◌, ◌*◌, ◌^◌, ◌<◌, ◌≤◌, min}
 use native.Mathlib.Omega.{arith}
 use lib.Dec.{lit<}
 use lib.ListN.{length, set, take, drop, replicate, length-set}
@@ -12,6 +12,7 @@ use borrow.Author.Tests.{lt-ltb, le-ltb}
 use Rattle.std.specs.Prelude.{Some, None}
 use Rattle.std.specs.Bool.{then_some}
 use Rattle.rings.specs.Ring.{next, attached}
+use Rattle.rings.proofs.Counts.{by_lt}
 use Rattle.cells.specs.Cells.{weight, zeroed}
 use Rattle.cells.proofs.Packing.{digit_le, put_lt}
 use Rattle.cells.proofs.Held.{count_none, count_one, count_free, count_tomb}
@@ -62,13 +63,9 @@ then_some_cond true x = refl
 then_some_cond false x = refl
 
 -- a record more, up to the capacity
-pub counted : (m : LinkedHashMap) {k : ℕ} → m.len < m.capacity → k ≡ m.len + 1 → k ≡ len_after m
+pub counted : (m : LinkedHashMap) {k : ℕ} → m.capacity ≤ 4096 → k ≡ min (min (m.len + 1) 18446744073709551615) m.capacity → k ≡ len_after m
 unfolding len_after
-counted m h e = e ∙ rw (lt-ltb _ _ h) refl
-
-pub all_counted : (m : LinkedHashMap) {k : ℕ} → m.capacity ≤ m.len → k ≡ m.capacity → k ≡ len_after m
-unfolding len_after
-all_counted m h e = e ∙ rw (le-ltb _ _ h) refl
+counted m {k} l e = by_lt m.len m.capacity (λ h. rw (lt-ltb _ _ h) (omega (arith, e))) (λ h. rw (le-ltb _ _ h) (omega (arith, e)))
 
 module _ (ws : List ℕ) (n : ℕ) where
   pub filled_on : (i : ℕ) → i < n → filled ws n i (n - i) ≡ filled (attached (n + 2) ws (n + 1) i) n (i + 1) (n - (i + 1))

@@ -4,6 +4,8 @@ use Rattle.rings.specs.Ring.{next, moved}
 use Rattle.cells.specs.declared.Probe.TheVariants.{Free}
 use Rattle.cells.specs.Probe.{probe}
 use Rattle.linked_hash_map.specs.declared.map.LinkedHashMap.{LinkedHashMap}
+use Rattle.linked_hash_map.specs.declared.map.Link.{Link}
+use Rattle.linked_hash_map.specs.declared.map.Link.TheVariants as link
 use Rattle.linked_hash_map.specs.declared.map.Record.{Record}
 use Rattle.linked_hash_map.specs.Words.{refilled, put_in}
 
@@ -18,6 +20,11 @@ shrunk_map m = record { capacity = m.capacity; len = m.len - 1; refill_in = m.re
 -- the slot that a link leads to
 unfoldable pub slot_from : ℕ → ℕ → Option ℕ
 slot_from n x = cond (ltb x n) (Some x) None
+
+-- which word of a node holds a link
+abbrev pub word_of : Link → ℕ
+word_of link.Previous = 3
+word_of link.Next = 4
 
 -- one record more
 unfoldable pub len_after : LinkedHashMap → ℕ

@@ -1,5 +1,5 @@
-// The hash cells. The words and n go side by side: a struct that held both would have `Room` for its invariant, but each function
-// that writes would then ensure that the reference and n stay, two clauses in the place of one.
+// The hash cells. The words and n go side by side: a struct that held both would have `Room` for its invariant,
+// but each function that writes would then ensure that the reference and n stay, two clauses in the place of one.
 ghost use Rattle.std.specs.Prelude.{◌≡◌, ◌+◌, ◌*◌, ◌<◌, ◌≤◌, length};
 ghost use Rattle.cells.specs.Cells.{cells_from, cell_words, cell_count, weight, cell_at, set_cell, cell_after, home_of, erased, zeroed};
 ghost use Rattle.cells.specs.Probe.{entered};
@@ -87,10 +87,7 @@ pub fn probe(words: &[u64], n: usize, key: u64) -> Probe
         }
         p = after(n, p);
     }
-    match free {
-        Some(p) => Probe::Free(p),
-        None => Probe::Full,
-    }
+    free.map_or(Probe::Full, Probe::Free)
 }
 
 // Enters a record in the cell that its key's probe offers.

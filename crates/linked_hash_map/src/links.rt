@@ -1,4 +1,5 @@
-// The links of the nodes. A link that is read is tested before it is a node.
+// The links of the nodes. A link that is read is tested before it is a node. Nodes are indices, and no boxes:
+// they stand in words of a fixed number, which the caller lends and may read.
 ghost use Rattle.std.specs.Prelude.{◌≡◌, ◌+◌, ◌<◌, length};
 ghost use Rattle.rings.specs.Ring.{joined, detached, attached, moved, spliced};
 ghost use Rattle.linked_hash_map.specs.Words.{Nodes};

@@ -5,14 +5,14 @@ ghost use Rattle.rings.specs.Ring.{moved};
 ghost use Rattle.cells.specs.Cells.{cell_count};
 ghost use Rattle.linked_hash_map.specs.declared.map.PutError.TheVariants as failed;
 ghost use Rattle.linked_hash_map.specs.Words.{Room, Nodes, record_at, written, emptied, wiped, refilled, replaced, taken_out};
-ghost use Rattle.linked_hash_map.specs.Numbers.{empty_map, shrunk_map, slot_from, Grown, Inserting, Renewing};
+ghost use Rattle.linked_hash_map.specs.Numbers.{empty_map, shrunk_map, slot_from, word_of, Grown, Inserting, Renewing};
 ghost use Rattle.linked_hash_map.specs.Calls.{Opening, Clearing, Draining, Finding, Touching, Reading, Writing, place_of, end_of, beside, ReplacingAt, InsertingAt, TakingAt, Putting, Removing, Recycling, Ending, Next, Previous, Checking};
 
 use crate::{check, index, links};
 use cells::Probe;
 
 // The map's numbers; all else is in the words.
-#[derive(Clone, Copy, Default)]
+#[derive(Clone, Copy, Default, PartialEq, Eq)]
 pub struct LinkedHashMap {
     pub capacity: usize,
     pub len: usize,
@@ -47,9 +47,11 @@ impl From<Unfit> for PutError {
 }
 
 // The two links of a node, as words of it.
-const PREVIOUS: usize = 3;
-
-const NEXT: usize = 4;
+#[derive(Clone, Copy)]
+enum Link {
+    Previous = 3,
+    Next = 4,
+}
 
 // All records free, and no cell used, whatever the words held.
 #[tactic(auto, unfolding(crate::specs::Words::emptied), using(crate::proofs::Steps::filling))]
@@ -109,6 +111,7 @@ fn replace(words: &mut [u64], n: usize, slot: usize, item: Record) -> Record
 }
 
 // Enters the live records anew, front first.
+#[cold]
 #[tactic(auto, unfolding(crate::specs::Words::refilled), using(crate::proofs::Steps::entering))]
 fn refill(words: &mut [u64], n: usize, len: usize)
     requires { Room (length words.old) n }
@@ -147,6 +150,14 @@ fn slot_from(n: usize, x: u64) -> Option<usize>
     (x < n as u64).then_some(x as usize)
 }
 
+// Some calls are compiled in place: a function of its own would put the numbers, and what the loop around it holds,
+// into memory at each turn.
+//
+// `record`, `set_payload`, `replace_at`, `insert_at`, `take_at` and `recycle` answer no `Result`, since they never
+// fail: where the words do not fit, each answers zeros, false, the item or nothing, as its contract has it.
+//
+// `first` and `last`, `next` and `previous` are a line each over one function. A step requires `Room`, or `Nodes`,
+// since the words are the caller's.
 impl LinkedHashMap {
     fn empty(capacity: usize) -> LinkedHashMap
         requires { capacity ≤ 4096 }
@@ -214,6 +225,7 @@ impl LinkedHashMap {
     }
 
     // Moves the key's record to the front.
+    #[inline(always)]
     pub fn touch(self, words: &mut [u64], key: u64) -> Result<Option<usize>, Unfit>
         ensures { Touching words.old self key words.new result }
     {
@@ -245,13 +257,11 @@ impl LinkedHashMap {
         let Ok(place) = self.seek(words, item.key) else {
             return false;
         };
-        match place {
-            Probe::At(_, slot) => {
-                write_record(words, slot, item);
-                true
-            }
-            Probe::Free(_) | Probe::Full => false,
+        if let Probe::At(_, slot) = place {
+            write_record(words, slot, item);
+            return true;
         }
+        false
     }
 
     // For a call that goes on at the place, so that the key is looked for once.
@@ -275,7 +285,9 @@ impl LinkedHashMap {
         item
     }
 
-    // Puts the record of a new key at the front, and its cell at this one, where there are fewer records than the capacity.
+    // Puts the record of a new key at the front, and its cell at this one, where there are fewer records than
+    // the capacity.
+    #[inline(always)]
     pub fn insert_at(&mut self, words: &mut [u64], cell: usize, item: Record)
         ensures { InsertingAt words.old self.old cell item words.new self.new }
     {
@@ -287,12 +299,13 @@ impl LinkedHashMap {
     }
 
     // The same, on words that have room and with a cell that they have.
+    #[inline(always)]
     fn insert(&mut self, words: &mut [u64], cell: usize, item: Record)
         requires { Room (length words.old) self.old.capacity × (cell < cell_count self.old.capacity) }
         ensures { Inserting words.old self.old item cell words.new self.new }
     {
         let n = self.capacity;
-        self.len = if self.len < n { self.len + 1 } else { n };
+        self.len = self.len.saturating_add(1).min(n);
         let x = words[5 * n + 9];
         if n as u64 <= x {
             return;
@@ -305,6 +318,7 @@ impl LinkedHashMap {
     }
 
     // Counts the insertions, and now and then enters the records in the cells anew.
+    #[inline(always)]
     fn count_insertion(&mut self, words: &mut [u64])
         requires { Room (length words.old) self.old.capacity }
         ensures { Grown words.old self.old self.old.len words.new self.new }
@@ -331,6 +345,7 @@ impl LinkedHashMap {
     }
 
     // Takes the record at a slot, and its cell, out of the map, and hands it back.
+    #[inline(always)]
     #[tactic(auto, unfolding(crate::specs::Words::taken_out))]
     fn take(&mut self, words: &mut [u64], cell: usize, slot: usize) -> Record
         requires { Room (length words.old) self.old.capacity × (cell < cell_count self.old.capacity) × (slot < self.old.capacity) }
@@ -362,6 +377,7 @@ impl LinkedHashMap {
         }
     }
 
+    #[inline(always)]
     pub fn remove(&mut self, words: &mut [u64], key: u64) -> Result<Option<Record>, Unfit>
         ensures { Removing words.old self.old key words.new self.new result }
     {
@@ -371,20 +387,17 @@ impl LinkedHashMap {
         }
     }
 
-    // Takes a key's record out and puts another in its place, at the front; where that one's key is held, nowhere. It is
-    // what `remove` and `put` would do, but the record stays in its ring.
+    // Takes a key's record out and puts another in its place, at the front; where that one's key is held, nowhere.
+    // It is what `remove` and `put` would do, but the record stays in its ring.
     pub fn recycle(&mut self, words: &mut [u64], key: u64, item: Record)
         ensures { Recycling words.old self.old key item words.new self.new }
     {
         let Ok(place) = self.seek(words, key) else {
             return;
         };
-        match place {
-            Probe::At(cell, slot) => {
-                index::erase(words, self.capacity, cell);
-                self.renew(words, item, slot);
-            }
-            Probe::Free(_) | Probe::Full => {}
+        if let Probe::At(cell, slot) = place {
+            index::erase(words, self.capacity, cell);
+            self.renew(words, item, slot);
         }
     }
 
@@ -421,77 +434,63 @@ impl LinkedHashMap {
     pub fn first(self, words: &[u64]) -> Result<Option<usize>, Unfit>
         ensures { Ending words.now self 0 result }
     {
-        self.end(words, NEXT)
+        self.end(words, Link::Next)
     }
 
     #[tactic(auto, using(crate::proofs::Walking::last_is))]
     pub fn last(self, words: &[u64]) -> Result<Option<usize>, Unfit>
         ensures { Ending words.now self (self.len - 1) result }
     {
-        self.end(words, PREVIOUS)
+        self.end(words, Link::Previous)
     }
 
     #[tactic(auto, using(crate::proofs::Walking::next_is))]
     pub fn next(self, words: &[u64], slot: usize) -> Result<Option<usize>, Unfit>
         ensures { Next words.now self slot result }
     {
-        self.beside(words, slot, NEXT)
+        self.beside(words, slot, Link::Next)
     }
 
     #[tactic(auto, using(crate::proofs::Walking::previous_is))]
     pub fn previous(self, words: &[u64], slot: usize) -> Result<Option<usize>, Unfit>
         ensures { Previous words.now self slot result }
     {
-        self.beside(words, slot, PREVIOUS)
+        self.beside(words, slot, Link::Previous)
     }
 
     // The slot to which a link of the live ring's own node leads.
     #[tactic(auto, unfolding(crate::specs::Calls::end_of), using(crate::proofs::Probed::err_unfit))]
-    fn end(self, words: &[u64], link: usize) -> Result<Option<usize>, Unfit>
-        requires { link < 5 }
-        ensures { result ≡ end_of words.now self link }
+    fn end(self, words: &[u64], link: Link) -> Result<Option<usize>, Unfit>
+        ensures { result ≡ end_of words.now self (word_of link) }
     {
         fits(words, self.capacity)?;
-        Ok(slot_from(self.capacity, words[5 * self.capacity + link]))
+        Ok(slot_from(self.capacity, words[5 * self.capacity + link as usize]))
     }
 
     // The slot to which a record's link leads.
     #[tactic(auto, unfolding(crate::specs::Calls::beside), using(crate::proofs::Probed::err_unfit))]
-    fn beside(self, words: &[u64], slot: usize, link: usize) -> Result<Option<usize>, Unfit>
-        requires { link < 5 }
-        ensures { result ≡ beside words.now self slot link }
+    fn beside(self, words: &[u64], slot: usize, link: Link) -> Result<Option<usize>, Unfit>
+        ensures { result ≡ beside words.now self slot (word_of link) }
     {
         fits(words, self.capacity)?;
         if self.capacity <= slot {
             return Ok(None);
         }
-        Ok(slot_from(self.capacity, words[5 * slot + link]))
+        Ok(slot_from(self.capacity, words[5 * slot + link as usize]))
     }
 
-    // Whether words and numbers form a map.
+    // Whether words and numbers form a map. The first three tests say what the calls after them require.
     pub fn check(self, words: &[u64]) -> bool
         ensures { Checking words.now self result }
     {
         let n = self.capacity;
-        if !limits::map(n, words.len()) {
-            return false;
-        }
         let len = self.len;
-        if n < len {
+        if !limits::map(n, words.len()) || n < len || self.refill_in == 0 {
             return false;
         }
-        if self.refill_in == 0 {
-            return false;
-        }
-        if !check::walks(words, n, n, len) {
-            return false;
-        }
-        if !check::walks(words, n, n + 1, n - len) {
-            return false;
-        }
-        if !check::finds_all(words, n, len) {
-            return false;
-        }
-        check::held(words, n) == len
+        check::walks(words, n, n, len)
+            && check::walks(words, n, n + 1, n - len)
+            && check::finds_all(words, n, len)
+            && check::held(words, n) == len
     }
 }

@@ -1,4 +1,5 @@
--- The words of an answer, by its kind. A count of discarded entries is the last word, but where a record takes all three.
+-- The words of an answer, by its kind. A count of discarded entries is the last word, but where a record takes
+-- all three.
 use Rattle.std.specs.Prelude.{Bool, true, false, ℕ}
 use Rattle.replay.specs.declared.answer.Answer.{Answer}
 use Rattle.replay.specs.declared.answer.Code.{Code}
@@ -23,45 +24,45 @@ number_of code.Immortal = 13
 number_of code.Expired = 14
 number_of code.Live = 15
 
-abbrev pub words : Code → ℕ → ℕ → ℕ → Answer
+abbrev pub words : ℕ → ℕ → ℕ → ℕ → Answer
 words c x y z = record { code = c; first = x; second = y; third = z }
 
 abbrev pub no : ℕ → Answer
-no d = words code.No 0 0 d
+no d = words 0 0 0 d
 
 abbrev pub yes : ℕ → Answer
-yes d = words code.Yes 0 0 d
+yes d = words 1 0 0 d
 
 abbrev pub of_bool : Bool → ℕ → Answer
 of_bool false d = no d
 of_bool true d = yes d
 
 abbrev pub nothing : ℕ → Answer
-nothing d = words code.Nothing 0 0 d
+nothing d = words 2 0 0 d
 
 abbrev pub number : ℕ → ℕ → Answer
-number n d = words code.Number n 0 d
+number n d = words 3 n 0 d
 
 abbrev pub pair : ℕ → ℕ → ℕ → Answer
-pair x y d = words code.Pair x y d
+pair x y d = words 4 x y d
 
 abbrev pub recorded : ℕ → ℕ → ℕ → Answer
-recorded k x y = words code.Record k x y
+recorded k x y = words 5 k x y
 
 abbrev pub inserted : Answer
-inserted = words code.Inserted 0 0 0
+inserted = words 6 0 0 0
 
 abbrev pub replaced : ℕ → ℕ → ℕ → Answer
-replaced k x y = words code.Replaced k x y
+replaced k x y = words 7 k x y
 
 abbrev pub full : Answer
-full = words code.Full 0 0 0
+full = words 8 0 0 0
 
 abbrev pub done : ℕ → Answer
-done d = words code.Done 0 0 d
+done d = words 9 0 0 d
 
 abbrev pub refused : ℕ → ℕ → Answer
-refused n d = words code.Refused n 0 d
+refused n d = words 10 n 0 d
 
 abbrev pub unknown : Answer
-unknown = words code.Unknown 0 0 0
+unknown = words 11 0 0 0

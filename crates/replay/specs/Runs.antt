@@ -2,7 +2,6 @@
 use Rattle.std.specs.Prelude.{◌≡◌, List, ℕ, ◌+◌, ◌*◌, ◌/◌, ◌<◌, ◌≤◌, min, length, get_or, set}
 use Rattle.replay.specs.declared.answer.Answer.{Answer}
 use Rattle.replay.specs.declared.call.Call.{Call}
-use Rattle.replay.specs.Answers.{number_of}
 
 -- the i-th call, counted from 0
 abbrev pub call_at : List ℕ → ℕ → Call
@@ -10,11 +9,11 @@ call_at cs i = record { operation = get_or cs (4 * i) 0; first = get_or cs (4 * 
 
 -- the words with the i-th answer written
 unfoldable pub with_answer : List ℕ → ℕ → Answer → List ℕ
-with_answer out i a = set (set (set (set out (4 * i) (number_of a.code)) (4 * i + 1) a.first) (4 * i + 2) a.second) (4 * i + 3) a.third
+with_answer out i a = set (set (set (set out (4 * i) a.code) (4 * i + 1) a.first) (4 * i + 2) a.second) (4 * i + 3) a.third
 
--- how many calls there are with room for an answer
-abbrev pub room_in : List ℕ → List ℕ → ℕ
-room_in cs out = min (length cs / 4) (length out / 4)
+-- how many calls of so many words there are with room for an answer
+abbrev pub room_in : ℕ → List ℕ → List ℕ → ℕ
+room_in size cs out = min (length cs / size) (length out / 4)
 
 -- what one call does: the words and numbers before it, the call, the words and numbers after it, its answer
 abbrev pub Step : Type 0 → Type 1
@@ -28,6 +27,6 @@ pub data Run {S : Type 0} (step : Step S) (cs ws : List ℕ) (s : S) (out : List
 -- as many calls as have an answer's room, from the numbers ns on, of which a layer has `size`; with fewer, none
 pub record Replayed {S : Type 0} (size : ℕ) (numbers_in : List ℕ → S) (step : Step S) (ns ws cs out ns' ws' out' : List ℕ) (k : ℕ) : Type 0 where
   pub few : length ns < size → (k ≡ 0) × (ns' ≡ ns) × (ws' ≡ ws) × (out' ≡ out)
-  pub count : size ≤ length ns → k ≡ room_in cs out
+  pub count : size ≤ length ns → k ≡ room_in 4 cs out
   pub run : size ≤ length ns → Run step cs ws (numbers_in ns) out k ws' (numbers_in ns') out'
   pub past : (j : ℕ) → size ≤ j → get_or ns' j 0 ≡ get_or ns j 0

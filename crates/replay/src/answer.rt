@@ -34,18 +34,20 @@ impl Code {
 
 #[derive(Clone, Copy)]
 pub struct Answer {
-    pub code: Code,
+    // No `Code`: the words are as C sees them, and a caller may hand in any.
+    pub code: u64,
     pub first: u64,
     pub second: u64,
     pub third: u64,
 }
 
+// The table of answers: a line for each kind.
 impl Answer {
     pub fn words(code: Code, first: u64, second: u64, third: u64) -> Answer
-        ensures { result ≡ answers.words code first second third }
+        ensures { result ≡ answers.words (answers.number_of code) first second third }
     {
         Answer {
-            code,
+            code: code.number(),
             first,
             second,
             third,

@@ -54,8 +54,8 @@ pub trait Layer {
     ghost past: { (ns : List ℕ) (s : Self.Numbers) (j : ℕ) → COUNT ≤ j → get_or (with_numbers ns s) j 0 ≡ get_or ns j 0 };
 }
 
-// Runs the calls on the words, and on the layer's numbers. Says how many calls it ran: as many as have room for an answer,
-// or none where there are fewer numbers than the layer has.
+// Runs the calls on the words, and on the layer's numbers. Says how many calls it ran: as many as have room for an
+// answer, or none where there are fewer numbers than the layer has.
 pub fn replay<L: Layer>(
     numbers: &mut [u64],
     words: &mut [u64],
@@ -67,7 +67,7 @@ pub fn replay<L: Layer>(
     if numbers.len() < L::COUNT {
         return 0;
     }
-    let count = room(calls, answers);
+    let count = room::<4>(calls, answers);
     let mut layer = L::numbers_in(numbers);
     L::run(words, &mut layer, calls, answers, count);
     L::store_numbers(numbers, layer);

@@ -1,7 +1,7 @@
 // Lists of calls in words, and their answers in words: what all layers' replays have in common.
 //
-// A call is four words: an operation and three arguments. An answer is four words: a code, and three that depend on it.
-// The last of them is how many entries the call discarded, but where a record takes all three.
+// A call is four words: an operation and three arguments. An answer is four words: a code, and three that depend
+// on it. The last of them is how many entries the call discarded, but where a record takes all three.
 //
 //   code  answer               its words
 //   0     no                   0, 0, discarded
@@ -21,8 +21,8 @@
 //   14    expired              0, 0, discarded
 //   15    live                 ticks that remain, deadline, discarded
 //
-// A layer gives its numbers in words and what one call does (`Layer`), and what a call returns is told by its type (`Tell`).
-// The list of calls, `replay`, is one for all of them.
+// A layer gives its numbers in words and what one call does (`Layer`), and what a call returns is told by its type
+// (`Tell`). The list of calls, `replay`, is one for all of them.
 #![tactic(auto)]
 
 mod answer;

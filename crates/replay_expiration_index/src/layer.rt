@@ -36,7 +36,8 @@ impl Layer for Index {
     fn step(words: &mut [u64], index: &mut ExpirationIndex, call: Call) -> Answer {
         let first = call.first;
         let second = call.second;
-        // Operations are numbers, as callers in C write them. The table of lib.rt names each, and only here is one told from another.
+        // Operations are numbers, as callers in C write them. The table of lib.rt names each, and only here is one
+        // told from another.
         match call.operation {
             0 => {
                 let opening = ExpirationIndex::open(words, first as usize, second);
@@ -64,8 +65,8 @@ impl Layer for Index {
     ghost past = { index_past };
 }
 
-// Runs the calls on the words, and on the index's numbers. Says how many calls it ran: as many as have room for an answer,
-// or none where there are fewer than six numbers.
+// Runs the calls on the words, and on the index's numbers. Says how many calls it ran: as many as have room for an
+// answer, or none where there are fewer than six numbers. Each exported name is a function of its own.
 #[unsafe(no_mangle)]
 pub extern "C" fn expiration_index_replay(
     numbers: &mut [u64],

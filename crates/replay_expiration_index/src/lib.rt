@@ -10,7 +10,7 @@
 //   5          pop_expired, tick            12         check
 //   6          deadline_of, key             other      none
 //
-// The numbers are those of the heap: capacity, len and refill_in of its map of scores, and then entries, seq, factor.
+// The numbers are those of the heap: capacity, len and refill_in of its map of scores, then entries, seq, factor.
 #![tactic(auto)]
 
 mod layer;

@@ -1,4 +1,5 @@
--- The numbers that are stored are read back, and no other changes. What no call changes need not be stored for that.
+-- The numbers that are stored are read back, and no other changes. For that
+-- what no call changes need not be stored.
 use mathlib.Core.Path.{◌≡◌, refl, sym, ap, ◌∙◌}
 use mathlib.Core.List.{List}
 use mathlib.Core.Logic.{◌≢◌}

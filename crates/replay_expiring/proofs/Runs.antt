@@ -1,5 +1,5 @@
--- The answers that a list of calls writes are the plain book's: each is written where none of the others is, and each call comes
--- to what it comes to on the plain book.
+-- The answers that a list of calls writes are the plain book's: each is written where none of the others is, and
+-- each call comes to what it comes to on the plain book.
 use mathlib.Core.Path.{◌≡◌, refl, ap, ◌∙◌}
 use mathlib.Core.Bool.{Bool, true, false, cond}
 use mathlib.Core.List.{List, [], ◌∷◌, ◌++◌}
@@ -25,7 +25,6 @@ use Rattle.expiring_model.specs.Lists.{Calls, answers_of, book_at_end}
 use Rattle.expiring.proofs.Accounts.{counted}
 use Rattle.expiring.proofs.Runs.{ReadsAs}
 use Rattle.replay.specs.declared.answer.Answer as replay
-use Rattle.replay.specs.Answers.{number_of}
 use Rattle.replay.specs.Runs.{with_answer}
 use Rattle.replay_expiring.specs.declared.call.Asked.{Asked}
 use Rattle.replay_expiring.specs.Words.{changing, asked_at, call_of, call_in, of_answer}
@@ -51,30 +50,30 @@ before out i j a h =
     simp get_or-set_other
 
 module _ (out : List ℕ) (i : ℕ) (a : replay.Answer) (h : 4 * i + 4 ≤ length out) where
-  code_at : get_or (with_answer out i a) (4 * i) 0 ≡ number_of a.code
+  code_at : get_or (with_answer out i a) (4 * i) 0 ≡ a.code
   unfolding with_answer
   code_at =
       let n1 : 4 * i ≢ 4 * i + 1 = omega arith in
       let n2 : 4 * i ≢ 4 * i + 2 = omega arith in
       let n3 : 4 * i ≢ 4 * i + 3 = omega arith in
-      simp get_or-set_other (get_or-set_same out (4 * i) (number_of a.code) 0 (omega arith))
+      simp get_or-set_other (get_or-set_same out (4 * i) a.code 0 (omega arith))
 
   first_at : get_or (with_answer out i a) (4 * i + 1) 0 ≡ a.first
   unfolding with_answer
   first_at =
       let n2 : 4 * i + 1 ≢ 4 * i + 2 = omega arith in
       let n3 : 4 * i + 1 ≢ 4 * i + 3 = omega arith in
-      simp get_or-set_other (get_or-set_same (set out (4 * i) (number_of a.code)) (4 * i + 1) a.first 0 (simp length-set (omega arith)))
+      simp get_or-set_other (get_or-set_same (set out (4 * i) a.code) (4 * i + 1) a.first 0 (simp length-set (omega arith)))
 
   second_at : get_or (with_answer out i a) (4 * i + 2) 0 ≡ a.second
   unfolding with_answer
   second_at =
       let n3 : 4 * i + 2 ≢ 4 * i + 3 = omega arith in
-      simp get_or-set_other (get_or-set_same (set (set out (4 * i) (number_of a.code)) (4 * i + 1) a.first) (4 * i + 2) a.second 0 (simp length-set (omega arith)))
+      simp get_or-set_other (get_or-set_same (set (set out (4 * i) a.code) (4 * i + 1) a.first) (4 * i + 2) a.second 0 (simp length-set (omega arith)))
 
   third_at : get_or (with_answer out i a) (4 * i + 3) 0 ≡ a.third
   unfolding with_answer
-  third_at = get_or-set_same (set (set (set out (4 * i) (number_of a.code)) (4 * i + 1) a.first) (4 * i + 2) a.second) (4 * i + 3) a.third 0 (simp length-set (omega arith))
+  third_at = get_or-set_same (set (set (set out (4 * i) a.code) (4 * i + 1) a.first) (4 * i + 2) a.second) (4 * i + 3) a.third 0 (simp length-set (omega arith))
 
 -- ---- the answers before it
 told_kept : (out : List ℕ) (i k : ℕ) (a : replay.Answer) → k ≤ i → told_in (with_answer out i a) k ≡ told_in out k

@@ -1,5 +1,5 @@
--- One call comes to what it comes to on the plain book. After a look that holds of the book as it was, since the plain book and
--- the heap stay as they are.
+-- One call comes to what it comes to on the plain book. After a look that holds of the book as it was, since the
+-- plain book and the heap stay as they are.
 use mathlib.Core.Path.{◌≡◌, refl, ap, ◌∙◌}
 use mathlib.Core.List.{List, [], ◌∷◌}
 use Prim.Native.Nat.{ℕ, ◌+◌, ◌-◌, ◌^◌, ◌<◌, min}

@@ -1,5 +1,5 @@
 -- What the exported functions promise.
-use Rattle.std.specs.Prelude.{◌≡◌, Option, Result, Ok, Err, ⊤, List, [], ◌∷◌, ◌++◌, ℕ, zero, suc, ◌+◌, ◌*◌, ◌/◌, ◌<◌, ◌≤◌, min, length, get_or}
+use Rattle.std.specs.Prelude.{◌≡◌, Option, Result, Ok, Err, ⊤, List, [], ◌∷◌, ◌++◌, ℕ, zero, suc, ◌+◌, ◌*◌, ◌<◌, ◌≤◌, length, get_or}
 use Rattle.time.specs.declared.refusal.Refusal.{Refusal}
 use Rattle.time.specs.declared.duration.Duration.{Duration}
 use Rattle.lazy_heap_model.specs.Model.{heap_len}
@@ -11,23 +11,18 @@ use Rattle.expiring.specs.Book.{IsBook, heap_of, model_of}
 use Rattle.expiring.specs.Calls.{no_book, Following, Opening, opening_of}
 use Rattle.expiring_model.specs.Lists.{Calls, answers_of, book_at_end}
 use Rattle.replay.specs.declared.answer.Answer as replay
-use Rattle.replay.specs.Answers.{number_of}
-use Rattle.replay.specs.Runs.{with_answer}
+use Rattle.replay.specs.Runs.{with_answer, room_in}
 use Rattle.expiring.specs.Numbers.{book_in, with_changed}
 use Rattle.replay_expiring.specs.declared.call.Asked.{Asked}
 use Rattle.replay_expiring.specs.Words.{operations, changing, asked_at, call_in, default_of, of_answer, of_outcome}
 
 -- ---- a list of calls
--- how many calls there are with room for an answer
-abbrev pub room_in : List ℕ → List ℕ → ℕ
-room_in cs out = min (length cs / 6) (length out / 4)
-
 abbrev pub of_reply : Reply → replay.Answer
 of_reply r = of_answer r.answer r.discarded
 
--- one call, as the book's call promises, on the book that the numbers tell, with its answer written as the i-th: from the numbers
--- ns, the words ws and the answers out to the three after it. A call that may change the book leaves the numbers of its reply, but
--- for those that no call changes; a look leaves numbers and words as they are.
+-- one call, as the book's call promises, on the book that the numbers tell, with its answer written as the i-th:
+-- from the numbers ns, the words ws and the answers out to the three after it. A call that may change the book
+-- leaves the numbers of its reply, but for those that no call changes; a look leaves numbers and words as they are.
 pub data Turn (a : Asked) (i : ℕ) (ns ws out : List ℕ) : List ℕ → List ℕ → List ℕ → Type 0 where
   changed : {ws' : List ℕ} {r : Reply} → a.operation < changing → Following ws (book_in ns) a.tick (call_in a) ws' r → Turn a i ns ws out (with_changed ns r.book) ws' (with_answer out i (of_reply r))
   looked : {r : Reply} → changing ≤ a.operation → Following ws (book_in ns) a.tick (call_in a) ws r → Turn a i ns ws out ns ws (with_answer out i (of_reply r))
@@ -42,10 +37,11 @@ pub record Ended (cs : List ℕ) (room k : ℕ) : Type 0 where
   pub within : k ≤ room
   pub all : k < room → operations ≤ (asked_at cs k).operation
 
--- `expiring_replay`: the calls up to the first that is none, from the numbers ns on; with fewer than twelve numbers, none
+-- `expiring_replay`: the calls up to the first that is none, from the numbers ns on; with fewer than twelve numbers,
+-- none
 pub record Replayed (ns ws cs out ns' ws' out' : List ℕ) (k : ℕ) : Type 0 where
   pub few : length ns < 12 → (k ≡ 0) × (ns' ≡ ns) × (ws' ≡ ws) × (out' ≡ out)
-  pub ended : 12 ≤ length ns → Ended cs (room_in cs out) k
+  pub ended : 12 ≤ length ns → Ended cs (room_in 6 cs out) k
   pub run : 12 ≤ length ns → Run cs ns ws out k ns' ws' out'
   pub past : (j : ℕ) → 12 ≤ j → get_or ns' j 0 ≡ get_or ns j 0
 
@@ -67,7 +63,7 @@ abbrev pub opening_with : Result ⊤ Refusal → Expiring → Result Expiring Re
 opening_with (Ok done) b = Ok b
 opening_with (Err why) b = Err why
 
--- `expiring_open`: the book's opening by the words cs, with its numbers and its answer written; without room, nothing
+-- `expiring_open`: the book's opening by the words cs, with its numbers and answer written; without room, nothing
 pub record Opens (ns ws cs out ns' ws' out' : List ℕ) (k : ℕ) : Type 0 where
   pub few : (Fits ns cs out → ⊥) → (k ≡ 0) × (ns' ≡ ns) × (ws' ≡ ws) × (out' ≡ out)
   pub ran : Fits ns cs out → k ≡ 1
@@ -84,7 +80,8 @@ pub record Checked (ns ws : List ℕ) (k : ℕ) : Type 0 where
   pub sound : k ≡ 1 → IsBook ws (book_in ns)
   pub complete : 12 ≤ length ns → IsBook ws (book_in ns) → k ≡ 1
 
--- ---- demand 3, of words: "all its answers are the plain book's, and after it the book reads as the plain book then stands"
+-- ---- demand 3, of words: "all its answers are the plain book's, and after it the book reads as the plain book then
+-- stands"
 -- the first k calls
 unfoldable pub calls_in : List ℕ → ℕ → Calls
 calls_in cs zero = []
@@ -97,7 +94,7 @@ pub record Told : Type 0 where
   pub second : ℕ
 
 abbrev pub told_of : replay.Answer → Told
-told_of a = record { code = number_of a.code; first = a.first; second = a.second }
+told_of a = record { code = a.code; first = a.first; second = a.second }
 
 -- the first k answers so, and the total of the entries discarded
 unfoldable pub told_in : List ℕ → ℕ → List Told
@@ -112,7 +109,8 @@ unfoldable pub words_of : List Answer → List Told
 words_of [] = []
 words_of (a ∷ l) = told_of (of_answer a 0) ∷ words_of l
 
--- k calls in the words cs, from a book that stands for p to the numbers ns and the words ws, with their answers in out
+-- k calls in the words cs, from a book that stands for p to the numbers ns and the words ws, with their answers
+-- in out
 pub record AsThePlainBook (p : Book) (cs : List ℕ) (k : ℕ) (ns ws out : List ℕ) : Type 0 where
   pub answers : told_in out k ≡ words_of (answers_of (calls_in cs k) p)
   pub model : let end = book_at_end (calls_in cs k) p in model_of ws (book_in ns) end.replaced end.removed ≡ end

@@ -9,7 +9,6 @@ use Rattle.expiring_model.specs.declared.answers.Answer.TheVariants as answer
 use Rattle.expiring_model.specs.Model.{Call, insert, insert_with_ttl, get, remove, clear, set_ttl, purge_expired, next_deadline, touch, pop_lru, contains, peek, ttl_status, recency_rank, live_len, expirations, peek_lru}
 use Rattle.replay_expiring.specs.declared.call.Asked.{Asked}
 use Rattle.replay.specs.declared.answer.Answer as replay
-use Rattle.replay.specs.declared.answer.Code.TheVariants as code
 use Rattle.replay.specs.Answers.{words, yes, no, nothing, number, pair, done, refused}
 use Rattle.replay.specs.Told.{of_done, of_call}
 
@@ -66,8 +65,8 @@ call_of o k v d =
 abbrev pub call_in : Asked → Call
 call_in a = call_of a.operation a.key a.value a.ttl
 
--- ---- an opening: capacity, limit of deadlines, first sequence number, whether there is a default lifetime, its seconds and
--- its nanoseconds
+-- ---- an opening: capacity, limit of deadlines, first sequence number, whether there is a default lifetime, its
+-- seconds and its nanoseconds
 abbrev pub default_of : ℕ → ℕ → ℕ → Option Duration
 default_of given secs nanos = cond (eqb given 0) None (Some (duration_of secs nanos))
 
@@ -77,10 +76,10 @@ of_answer answer.Nothing d = nothing d
 of_answer (answer.Value v) d = number v d
 of_answer answer.Yes d = yes d
 of_answer answer.No d = no d
-of_answer answer.Missing d = words code.Missing 0 0 d
-of_answer answer.Immortal d = words code.Immortal 0 0 d
-of_answer answer.Expired d = words code.Expired 0 0 d
-of_answer (answer.Live l t) d = words code.Live l.0 t.0 d
+of_answer answer.Missing d = words 12 0 0 d
+of_answer answer.Immortal d = words 13 0 0 d
+of_answer answer.Expired d = words 14 0 0 d
+of_answer (answer.Live l t) d = words 15 l.0 t.0 d
 of_answer (answer.Count n) d = number n d
 of_answer (answer.Due k t) d = pair k t.0 d
 of_answer (answer.Item k v) d = pair k v d

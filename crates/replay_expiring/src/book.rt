@@ -1,12 +1,12 @@
-// A book's opening, and the check.
+// A book's opening, and the check. C's interface: answers are 0 or 1, and a word says whether there is a lifetime.
 ghost use Rattle.std.specs.Prelude.{◌≡◌};
 ghost use Rattle.replay_expiring.specs.Runs.{Opens, Checked};
 
 use expiring::Expiring;
 use time::Duration;
 
-// Opens a book in the words, and writes its numbers and an answer. Says 1, or 0 where it did nothing: where there are fewer
-// than twelve numbers, six words of an opening or four words for the answer.
+// Opens a book in the words, and writes its numbers and an answer. Says 1, or 0 where it did nothing: where
+// there are fewer than twelve numbers, six words of an opening or four words for the answer.
 pub fn expiring_open(
     numbers: &mut [u64],
     words: &mut [u64],

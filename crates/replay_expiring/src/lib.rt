@@ -13,28 +13,20 @@
 //   7          next_deadline                          16         peek_lru
 //   8          touch, key
 //
-// Any other number is no call, and ends the list. A word of nanoseconds beyond 32 bits is taken for the largest of 32 bits,
-// which is no duration either, so that it is refused as one.
+// Any other number is no call, and ends the list. A word of nanoseconds beyond 32 bits is taken for the largest of
+// 32 bits, which is no duration either, so that it is refused as one.
 //
-// An opening is six words too: capacity, limit of deadlines, first sequence number, 0 for no default lifetime, and its
-// seconds and nanoseconds.
+// An opening is six words too: capacity, limit of deadlines, first sequence number, 0 for no default lifetime, and
+// its seconds and nanoseconds.
 //
-// An answer is four words, of which the last is how many entries of the heap were discarded. Its code is one of the crate
-// `replay`, or one of a lifetime's status:
+// An answer is four words, as the crate `replay` says, of which the last is how many entries of the heap were
+// discarded. A value, a count and a rank are a number; the next due (key, deadline) and an item are a pair.
 //
-//   code  answer     its words
-//   12    missing    0, 0, discarded
-//   13    immortal   0, 0, discarded
-//   14    expired    0, 0, discarded
-//   15    live       ticks that remain, deadline, discarded
-//
-// A value, a count and a rank are a number; the next due (key, deadline) and an item are a pair.
-//
-// The numbers are the list's (capacity, len, refill_in), the index's (limit, len and refill_in of its map, entries, seq,
-// factor), 1 for a default lifetime and 0 for none, its ticks, and the expirations. Any number but 0 is read as 1, and the ticks
-// of none as 0. Operations 0 to 9, which may change the book, hand back its numbers but for capacity, limit and default lifetime,
-// which no call changes. The others look, and leave all numbers as they are. How an answer is written is public, for functions
-// of a single call.
+// The numbers are the list's (capacity, len, refill_in), the index's (limit, len and refill_in of its map,
+// entries, seq, factor), 1 for a default lifetime and 0 for none, its ticks, and the expirations. Any number but
+// 0 is read as 1, and the ticks of none as 0. Operations 0 to 9, which may change the book, store its numbers
+// but for capacity, limit and default lifetime, which no call changes. The others look, and leave all numbers as
+// they are. How an answer is written is public, for functions of a single call.
 #![tactic(auto)]
 
 mod answer;

@@ -1,15 +1,15 @@
 // A list of calls.
-ghost use Rattle.std.specs.Prelude.{◌≡◌, ◌*◌, ◌<◌, ◌≤◌, length};
-ghost use Rattle.replay_expiring.specs.Words.{asked_at, operations};
-ghost use Rattle.replay_expiring.specs.Runs.{room_in, Run, Ended, Replayed};
+ghost use Rattle.std.specs.Prelude.{◌*◌, ◌≤◌, length};
+ghost use Rattle.replay_expiring.specs.Runs.{Run, Ended, Replayed};
 
 use crate::{call, turn};
+use replay::room;
 
 // How many there are.
 const OPERATIONS: u64 = 17;
 
-// Runs the calls on the words, and on the book's numbers. Says how many calls it ran: as many as have room for an answer and
-// come before the first that is none, or 0 where there are fewer than twelve numbers.
+// Runs the calls on the words, and on the book's numbers. Says how many calls it ran: as many as have room for an
+// answer and come before the first that is none, or 0 where there are fewer than twelve numbers.
 pub fn expiring_replay(
     numbers: &mut [u64],
     words: &mut [u64],
@@ -21,16 +21,11 @@ pub fn expiring_replay(
     if numbers.len() < 12 {
         return 0;
     }
-    run(numbers, words, calls, answers, room(calls, answers)) as u64
+    let room = room::<6>(calls, answers);
+    run(numbers, words, calls, answers, room) as u64
 }
 
-// How many calls there are with room for an answer.
-fn room(calls: &[u64], answers: &[u64]) -> usize
-    ensures { result ≡ room_in calls.now answers.now }
-{
-    (calls.len() / 6).min(answers.len() / 4)
-}
-
+// Twelve numbers by a contract: `expiring` is lent a slice, so an array would be lent as one again.
 fn run(
     numbers: &mut [u64],
     words: &mut [u64],
@@ -42,11 +37,12 @@ fn run(
     ensures { Ended calls.now room result × Run calls.now numbers.old words.old answers.old result numbers.new words.new answers.new }
 {
     for i in 0..room {
-        let asked = call::asked_at(calls, i);
-        if OPERATIONS <= asked.operation {
+        let operation = call::operation_at(calls, i);
+        // A comparison, as the number comes from outside: any may come.
+        if OPERATIONS <= operation {
             return i;
         }
-        turn::turn(numbers, words, asked, answers, i);
+        turn::turn(numbers, words, operation, calls, answers, i);
     }
     room
 }

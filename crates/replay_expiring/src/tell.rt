@@ -19,16 +19,20 @@ pub fn store_said(answers: &mut [u64], i: usize, said: Counted<Answer>)
     replay::store_answer(answers, i, told);
 }
 
-// Writes the answer as the i-th.
+// The same, of a call that hands the book's numbers back.
 pub fn store_answer(answers: &mut [u64], i: usize, reply: Reply)
     requires { 4 * i + 4 ≤ length answers.old }
     ensures { answers.new ≡ with_answer answers.old i (of_reply reply) }
 {
-    let told = answer::of_answer(reply.answer, reply.discarded as u64);
-    replay::store_answer(answers, i, told);
+    let said = Counted {
+        answer: reply.answer,
+        discarded: reply.discarded,
+    };
+    store_said(answers, i, said);
 }
 
 // Writes the numbers that a call may change, and the answer as the i-th.
+// Twelve numbers by a contract: `expiring` is lent a slice, so an array would be lent as one again.
 pub fn store_reply(numbers: &mut [u64], answers: &mut [u64], i: usize, reply: Reply)
     requires { (12 ≤ length numbers.old) × (4 * i + 4 ≤ length answers.old) }
     ensures { (numbers.new ≡ with_changed numbers.old reply.book) × (answers.new ≡ with_answer answers.old i (of_reply reply)) }

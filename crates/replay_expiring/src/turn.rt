@@ -1,83 +1,116 @@
-// One call: it is made, and its answer written as the i-th. A call that looks stores no numbers.
+// One call: it is made, and its answer written as the i-th. A call that looks stores no numbers. Each arm reads
+// the words of its own call: read before the operations are told apart, all six would be read for each.
 ghost use Rattle.std.specs.Prelude.{◌≡◌, ◌+◌, ◌*◌, ◌<◌, ◌≤◌, length};
-ghost use Rattle.replay_expiring.specs.Words.{operations};
+ghost use Rattle.replay_expiring.specs.Words.{asked_at, operations};
 ghost use Rattle.replay_expiring.specs.Runs.{Turn};
 
-use crate::call::Asked;
+use crate::call::asked_at;
 use crate::tell;
 
-pub fn turn(numbers: &mut [u64], words: &mut [u64], asked: Asked, answers: &mut [u64], i: usize)
-    requires { (12 ≤ length numbers.old) × (4 * i + 4 ≤ length answers.old) × (asked.operation < operations) }
-    ensures { Turn asked i numbers.old words.old answers.old numbers.new words.new answers.new }
+// Twelve numbers by a contract: `expiring` is lent a slice, so an array would be lent as one again.
+pub fn turn(
+    numbers: &mut [u64],
+    words: &mut [u64],
+    operation: u64,
+    calls: &[u64],
+    answers: &mut [u64],
+    i: usize,
+)
+    requires { (12 ≤ length numbers.old) × (6 * i + 6 ≤ length calls.now) × (4 * i + 4 ≤ length answers.old) × (operation ≡ (asked_at calls.now i).operation) × (operation < operations) }
+    ensures { Turn (asked_at calls.now i) i numbers.old words.old answers.old numbers.new words.new answers.new }
 {
-    let tick = asked.tick;
-    let key = asked.key;
-    let value = asked.value;
-    let ttl = asked.ttl;
-    match asked.operation {
-        0 => tell::store_said(
-            answers,
-            i,
-            expiring::insert(numbers, words, tick, key, value),
-        ),
-        1 => tell::store_said(
-            answers,
-            i,
-            expiring::insert_with_ttl(numbers, words, tick, key, value, ttl),
-        ),
-        2 => tell::store_said(answers, i, expiring::get(numbers, words, tick, key)),
-        3 => tell::store_said(answers, i, expiring::remove(numbers, words, tick, key)),
+    // An operation is a number, since from C any may come, and the table has to stand somewhere.
+    match operation {
+        0 => {
+            let asked = asked_at(calls, i);
+            let said = expiring::insert(numbers, words, asked.tick, asked.key, asked.value);
+            tell::store_said(answers, i, said);
+        }
+        1 => {
+            let asked = asked_at(calls, i);
+            let said = expiring::insert_with_ttl(
+                numbers,
+                words,
+                asked.tick,
+                asked.key,
+                asked.value,
+                asked.ttl,
+            );
+            tell::store_said(answers, i, said);
+        }
+        2 => {
+            let asked = asked_at(calls, i);
+            let said = expiring::get(numbers, words, asked.tick, asked.key);
+            tell::store_said(answers, i, said);
+        }
+        3 => {
+            let asked = asked_at(calls, i);
+            let said = expiring::remove(numbers, words, asked.tick, asked.key);
+            tell::store_said(answers, i, said);
+        }
         4 => {
-            let reply = expiring::book_in(numbers).clear(words, tick);
+            let asked = asked_at(calls, i);
+            let reply = expiring::book_in(numbers).clear(words, asked.tick);
             tell::store_reply(numbers, answers, i, reply);
         }
-        5 => tell::store_said(
-            answers,
-            i,
-            expiring::set_ttl(numbers, words, tick, key, ttl),
-        ),
+        5 => {
+            let asked = asked_at(calls, i);
+            let said = expiring::set_ttl(numbers, words, asked.tick, asked.key, asked.ttl);
+            tell::store_said(answers, i, said);
+        }
         6 => {
-            let reply = expiring::book_in(numbers).purge_expired(words, tick);
+            let asked = asked_at(calls, i);
+            let reply = expiring::book_in(numbers).purge_expired(words, asked.tick);
             tell::store_reply(numbers, answers, i, reply);
         }
         7 => {
-            let reply = expiring::book_in(numbers).next_deadline(words, tick);
+            let asked = asked_at(calls, i);
+            let reply = expiring::book_in(numbers).next_deadline(words, asked.tick);
             tell::store_reply(numbers, answers, i, reply);
         }
         8 => {
-            let reply = expiring::book_in(numbers).touch(words, tick, key);
+            let asked = asked_at(calls, i);
+            let reply = expiring::book_in(numbers).touch(words, asked.tick, asked.key);
             tell::store_reply(numbers, answers, i, reply);
         }
         9 => {
-            let reply = expiring::book_in(numbers).pop_lru(words, tick);
+            let asked = asked_at(calls, i);
+            let reply = expiring::book_in(numbers).pop_lru(words, asked.tick);
             tell::store_reply(numbers, answers, i, reply);
         }
         10 => {
-            let reply = expiring::book_in(numbers).contains(words, tick, key);
+            let asked = asked_at(calls, i);
+            let reply = expiring::book_in(numbers).contains(words, asked.tick, asked.key);
             tell::store_answer(answers, i, reply);
         }
         11 => {
-            let reply = expiring::book_in(numbers).peek(words, tick, key);
+            let asked = asked_at(calls, i);
+            let reply = expiring::book_in(numbers).peek(words, asked.tick, asked.key);
             tell::store_answer(answers, i, reply);
         }
         12 => {
-            let reply = expiring::book_in(numbers).ttl_status(words, tick, key);
+            let asked = asked_at(calls, i);
+            let reply = expiring::book_in(numbers).ttl_status(words, asked.tick, asked.key);
             tell::store_answer(answers, i, reply);
         }
         13 => {
-            let reply = expiring::book_in(numbers).recency_rank(words, tick, key);
+            let asked = asked_at(calls, i);
+            let reply = expiring::book_in(numbers).recency_rank(words, asked.tick, asked.key);
             tell::store_answer(answers, i, reply);
         }
         14 => {
-            let reply = expiring::book_in(numbers).live_len(words, tick);
+            let asked = asked_at(calls, i);
+            let reply = expiring::book_in(numbers).live_len(words, asked.tick);
             tell::store_answer(answers, i, reply);
         }
         15 => {
-            let reply = expiring::book_in(numbers).expirations(words, tick);
+            let asked = asked_at(calls, i);
+            let reply = expiring::book_in(numbers).expirations(words, asked.tick);
             tell::store_answer(answers, i, reply);
         }
         _ => {
-            let reply = expiring::book_in(numbers).peek_lru(words, tick);
+            let asked = asked_at(calls, i);
+            let reply = expiring::book_in(numbers).peek_lru(words, asked.tick);
             tell::store_answer(answers, i, reply);
         }
     }

@@ -44,7 +44,7 @@ impl Layer for List {
     }
 
     fn run(words: &mut [u64], lru: &mut FastLru, calls: &[u64], answers: &mut [u64], count: usize) {
-        // A turn runs one call or more.
+        // A turn runs one call or more, which no `for` says.
         let mut i = 0;
         while i < count {
             i = run_on(words, lru, calls, answers, i, count);
@@ -56,8 +56,8 @@ impl Layer for List {
     ghost past = { lru_past };
 }
 
-// Runs the calls on the words, and on the list's numbers. Says how many calls it ran: as many as have room for an answer,
-// or none where there are fewer than three numbers.
+// Runs the calls on the words, and on the list's numbers. Says how many calls it ran: as many as have room for an
+// answer, or none where there are fewer than three numbers. Each exported name is a function of its own.
 #[unsafe(no_mangle)]
 pub extern "C" fn fast_lru_replay(
     numbers: &mut [u64],
@@ -76,7 +76,8 @@ pub fn single(words: &mut [u64], lru: &mut FastLru, call: Call) -> Answer
     ensures { Ran words.old lru.old call words.new lru.new result }
 {
     let key = call.first;
-    // Operations are numbers, as callers in C write them. The table of lib.rt names each, and only here is one told from another.
+    // Operations are numbers, as callers in C write them. The table of lib.rt names each. Those with a loop of
+    // their own are told apart in runs.rt and in `step`, the others here.
     match call.operation {
         0 => {
             let opening = FastLru::new(words, key as usize);

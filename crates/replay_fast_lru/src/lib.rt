@@ -1,5 +1,5 @@
-// The recency list's calls for Rust and C, a list of them at a time. The crate `replay` says what calls and answers are
-// in words.
+// The recency list's calls for Rust and C, a list of them at a time. The crate `replay` says what calls and
+// answers are in words.
 //
 //   operation  call                 operation  call
 //   0          new, capacity        8          contains, key

@@ -1,5 +1,6 @@
-// Calls of one operation, one after the other. The loop tells no operations apart, and what depends on the numbers alone is worked
-// out once, not at each call: a lookup takes two thirds of the time. The operations that are asked for most have such a loop.
+// Calls of one operation, one after the other. The loop tells no operations apart, and what depends on the numbers
+// alone is worked out once, not at each call: a lookup takes two thirds of the time. The operations that are
+// asked for most have such a loop.
 ghost use Rattle.std.specs.Prelude.{◌≡◌, ◌*◌, ◌<◌, ◌≤◌, length};
 ghost use Rattle.replay.specs.Runs.{call_at};
 ghost use Rattle.replay_fast_lru.specs.Steps.{Ran, Onward};
@@ -8,7 +9,7 @@ use crate::layer::single;
 use fast_lru::FastLru;
 use replay::{Answer, Call, Tell, call_at, store_answer};
 
-// The operations that have a loop of their own.
+// The operations that have a loop of their own. C's numbers, and a const parameter takes no enum.
 pub const INSERT: u64 = 2;
 
 pub const GET: u64 = 3;
@@ -17,8 +18,8 @@ pub const TOUCH: u64 = 6;
 
 pub const PEEK: u64 = 7;
 
-// Runs a call, and where it is of an operation that has a loop of its own, those after it that are too. Says which call is
-// the next.
+// Runs a call, and where it is of an operation that has a loop of its own, those after it that are too. Says which
+// call is the next.
 pub fn run_on(
     words: &mut [u64],
     lru: &mut FastLru,
@@ -44,7 +45,8 @@ pub fn run_on(
     }
 }
 
-// Runs the calls from one on while they are of the operation. The numbers are the loop's own, so that they need not be in memory.
+// Runs the calls from one on while they are of the operation. The numbers are the loop's own, so that they need
+// not be in memory.
 fn alike<const OPERATION: u64>(
     words: &mut [u64],
     lru: &mut FastLru,
@@ -71,8 +73,8 @@ fn alike<const OPERATION: u64>(
     next
 }
 
-// A call of the operation. The test is of a constant, so that each loop calls one function, and where nothing else calls that
-// it is taken in.
+// A call of the operation. The test is of a constant, so that each loop calls one function, and where nothing else
+// calls that it is taken in.
 pub fn make<const OPERATION: u64>(words: &mut [u64], lru: &mut FastLru, call: Call) -> Answer
     requires { call.operation ≡ OPERATION }
     ensures { Ran words.old lru.old call words.new lru.new result }

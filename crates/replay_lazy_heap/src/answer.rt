@@ -1,4 +1,5 @@
-// The answers of calls that may discard entries, in words.
+// The answers of calls that may discard entries, in words. (No impl of `Tell`: it would have to stand with that
+// trait or with `Counted`, and then `replay` would stand on the layers that it replays, or these on `replay`.)
 ghost use Rattle.std.specs.Prelude.{◌≡◌};
 ghost use Rattle.replay_lazy_heap.specs.Answers.{of_counted, of_discarded};
 

@@ -35,7 +35,8 @@ impl Layer for Heap {
     fn step(words: &mut [u64], heap: &mut LazyMinHeap, call: Call) -> Answer {
         let first = call.first;
         let second = call.second;
-        // Operations are numbers, as callers in C write them. The table of lib.rt names each, and only here is one told from another.
+        // Operations are numbers, as callers in C write them. The table of lib.rt names each, and only here is
+        // one told from another.
         match call.operation {
             0 => {
                 let opening = LazyMinHeap::open(words, first as usize, second as usize, call.third);
@@ -67,8 +68,9 @@ impl Layer for Heap {
     ghost past = { heap_past };
 }
 
-// Runs the calls on the words, and on the heap's numbers. Says how many calls it ran: as many as have room for an answer,
-// or none where there are fewer than six numbers.
+// Runs the calls on the words, and on the heap's numbers. Says how many calls it ran: as many as have room for
+// an answer, or none where there are fewer than six numbers. (A function of its own, since `replay_lazy_heap_c`
+// exports its name.)
 pub fn lazy_heap_replay(
     numbers: &mut [u64],
     words: &mut [u64],

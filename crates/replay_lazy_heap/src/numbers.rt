@@ -1,4 +1,5 @@
 // The heap's numbers in words: those of the map of scores, and three more.
+// C's interface, where numbers are words: in a slice, whose length the contracts ask for.
 ghost use Rattle.std.specs.Prelude.{◌≡◌, ◌≤◌, length};
 ghost use Rattle.replay_lazy_heap.specs.Numbers.{heap_in, with_heap};
 

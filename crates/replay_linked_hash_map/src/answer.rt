@@ -1,4 +1,6 @@
 // The answers of the map's calls, in words. None discards anything, and none has a refusal's number.
+// (Functions: an impl of `Tell` would have to stand beside the trait or the type, and `replay` would then stand
+// on every layer.)
 ghost use Rattle.std.specs.Prelude.{◌≡◌};
 ghost use Rattle.replay_linked_hash_map.specs.Answers.{of_slot, of_record, of_placed, of_taken};
 

@@ -34,7 +34,8 @@ impl Layer for Map {
 
     fn step(words: &mut [u64], map: &mut LinkedHashMap, call: Call) -> Answer {
         let key = call.first;
-        // Operations are numbers, as callers in C write them. The table of lib.rt names each, and only here is one told from another.
+        // Operations are numbers, as callers in C write them. The table of lib.rt names each, and only here is one
+        // told from another.
         match call.operation {
             0 => {
                 let opening = LinkedHashMap::open(words, key as usize);
@@ -62,8 +63,9 @@ impl Layer for Map {
     ghost past = { map_past };
 }
 
-// Runs the calls on the words, and on the map's numbers. Says how many calls it ran: as many as have room for an answer,
-// or none where there are fewer than three numbers.
+// Runs the calls on the words, and on the map's numbers. Says how many calls it ran: as many as have room for an
+// answer, or none where there are fewer than three numbers. (A function of its own, since `replay_linked_hash_map_c`
+// exports its name.)
 pub fn linked_hash_map_replay(
     numbers: &mut [u64],
     words: &mut [u64],

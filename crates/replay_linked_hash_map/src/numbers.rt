@@ -1,4 +1,5 @@
 // The map's numbers in words, the first three of a layer's.
+// C's interface, where numbers are words: in a slice, whose length the contracts ask for.
 ghost use Rattle.std.specs.Prelude.{◌≡◌, ◌≤◌, length};
 ghost use Rattle.replay_linked_hash_map.specs.Numbers.{map_in, with_map};
 

@@ -1,12 +1,13 @@
-// The map's list of calls for programs in C and Rust: the function of `replay_linked_hash_map`, exported.
+// The map's list of calls for programs in C and Rust: the function of `replay_linked_hash_map`, exported. Each
+// exported name is a function of its own.
 #![tactic(auto)]
 
 ghost use Rattle.replay.specs.Runs.{Replayed};
 ghost use Rattle.replay_linked_hash_map.specs.Numbers.{map_in};
 ghost use Rattle.replay_linked_hash_map.specs.Steps.{Ran};
 
-// Runs the calls on the words, and on the map's numbers. Says how many calls it ran: as many as have room for an answer,
-// or none where there are fewer than three numbers.
+// Runs the calls on the words, and on the map's numbers. Says how many calls it ran: as many as have room for an
+// answer, or none where there are fewer than three numbers.
 #[unsafe(no_mangle)]
 pub extern "C" fn linked_hash_map_replay(
     numbers: &mut [u64],

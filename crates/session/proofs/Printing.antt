@@ -1,5 +1,5 @@
 -- There is room for every answer, and what is printed is it.
-use mathlib.Core.Path.{◌≡◌, refl, ap, ◌∙◌, subst}
+use mathlib.Core.Path.{◌≡◌, refl, sym, ap, ◌∙◌, subst}
 use mathlib.Core.List.{List, ◌++◌, append_assoc}
 use Prim.Native.Nat.{ℕ, ◌+◌, ◌*◌, ◌≤◌}
 use native.Mathlib.Omega.{arith}
@@ -14,8 +14,9 @@ use Rattle.expiring.specs.declared.answers.Reply.{Reply}
 use Rattle.expiring.specs.Book.{heap_of, model_of}
 use Rattle.expiring.specs.Calls.{HeapLength, DeadlinesHeld}
 use Rattle.text.specs.Text.{fill}
-use Rattle.text.proofs.Laws.{fill_size}
+use Rattle.text.proofs.Laws.{fill_size, puts_then}
 use Rattle.session.specs.declared.answer.Counts.{Counts}
+use Rattle.text.specs.Writing.{Puts}
 use Rattle.session.specs.Answers.{line_format, line_numbers, line_of, Prints, head_of, tail_of}
 use Rattle.session.specs.Session.{room, Written, Tells}
 
@@ -58,7 +59,13 @@ line_parts (answer.Rank n) c = simp append_assoc
 line_parts answer.Done c = refl
 line_parts (answer.Refused why) c = simp append_assoc
 
--- an answer's head, where it is known which answer it is
+pub parts_written : (a : Answer) (c : Counts) {h out out₁ out₂ out' : List ℕ} {m n : ℕ} → h ≡ head_of a → Puts out 0 h out₁ m → Puts out₁ m (tail_of c) out₂ n → out₂ ≡ out' → Prints out a c out' n
+parts_written a c e p q f = rw (sym f) (rw (line_parts a c) at (puts_then (rw e at p) q))
+
+-- an answer's head, where it is known which answer it is: as it is written, and as a text
+pub head_of_lem : {out out' : List ℕ} {n : ℕ} {a b : Answer} → a ≡ b → Puts out 0 (head_of b) out' n → Puts out 0 (head_of a) out' n
+head_of_lem e p = rw e p
+
 pub head_is : {a b : Answer} {l : List ℕ} → a ≡ b → l ≡ head_of b → l ≡ head_of a
 head_is e p = rw e p
 

@@ -1,7 +1,8 @@
--- A line's step follows the model: from no book, by an opening or a refusal; from a book, by a call of it or a refusal.
+-- A line's step follows the model: from no book, by an opening or a refusal; from a book, by a call of it or a
+-- refusal.
 use mathlib.Core.Path.{◌≡◌, refl, sym, ap, ◌∙◌, subst}
 use mathlib.Core.List.{List, []}
-use Rattle.std.specs.Prelude.{Option, None, Some, Result, Ok, Err}
+use Rattle.std.specs.Prelude.{Option, None, Some, option_map, Result, Ok, Err}
 use Prim.Native.Nat.{ℕ, ◌<◌, ◌≤◌}
 use native.Mathlib.Omega.{arith}
 use borrow.Author.Tests.{lt-ltb, le-ltb}
@@ -26,6 +27,8 @@ use Rattle.expiring_model.specs.Model.{default_of}
 use Rattle.forms.specs.declared.form.Call.{Call}
 use Rattle.forms.specs.declared.form.Form.{Form}
 use Rattle.forms.specs.declared.form.Form.TheVariants as form
+use Rattle.forms.specs.declared.form.Lifetime.{Lifetime}
+use Rattle.time.specs.Duration.{duration_of}
 use Rattle.session.specs.declared.step.Session as code
 use Rattle.session.specs.declared.step.Session.TheVariants as session
 use Rattle.forms.specs.Forms.{Reads}
@@ -94,6 +97,10 @@ module _ (ws ws' : List ℕ) (c d s : ℕ) (l : Option Duration) (r : Result Exp
     refused = λ why e. (opening_refused (length ws) c d s l k h (sym o.outcome ∙ ap outcome_of e), o.refused why e);
   }
 
+-- a form that opens a book, with the lifetime that it names
+pub opens_form : {ws ws' : List ℕ} {f : Option Form} {c d s : ℕ} {l : Option Lifetime} {m : Option Duration} {r : Result Expiring Refusal} → f ≡ Some (form.Book c d s l) → m ≡ option_map (λ t. duration_of t.secs t.nanos) l → Opens ws (opening (length ws) c d s m) ws' r → Opens ws (step (length ws) waiting f) ws' r
+opens_form e q o = rw (e, sym q) o
+
 -- ---- a later line
 line_same : {a a' : Answer} {d d' : ℕ} {h h' : heap.Heap} {l l' : ℕ} → a ≡ a' → d ≡ d' → h ≡ h' → l ≡ l' → line_of a (record { discarded = d; heap = heap_len h; held = l }) ≡ line_of a' (record { discarded = d'; heap = heap_len h'; held = l' })
 line_same ea ed eh el = rw (ea, ed, eh, el) refl
@@ -126,6 +133,15 @@ call_replies t c a e = rw e (record {
 abbrev bad : Expiring → Reply
 bad b = record { book = b; answer = answer.Refused MalformedLine; discarded = 0 }
 
+-- where the book's answer is refusal 6, and is written
+module _ {ws out out' : List ℕ} {b : Expiring} {n : ℕ} (k : Tells ws (bad b) out out' n) where
+  pub malformed_follows : (p : Book) → IsBook ws b → model_of ws b p.replaced p.removed ≡ p → Follows out (malformed p (heap_of ws b)) ws (session.Open b) out' n
+  unfolding malformed model_of
+  malformed_follows p o m = record {
+    state = opened o m;
+    written = subst (λ (z : Book). Written out (line_of (answer.Refused MalformedLine) (counts 0 z (heap_of ws b))) out' n) m (k.written o);
+  }
+
 pub malformed_replies : (ws : List ℕ) (b : Expiring) {f : Option Form} → ((p : Book) → step (length ws) (running p (heap_of ws b)) f ≡ malformed p (heap_of ws b)) → Replies ws b f ws (bad b)
 unfolding malformed model_of
 malformed_replies ws b e = record {
@@ -147,8 +163,7 @@ other_replies ws b {f} n = malformed_replies ws b (go f n)
   where
     go : (f : Option Form) → ((t : ℕ) (c : Call) → f ≡ Some (form.At t c) → ⊥) → (p : Book) → step (length ws) (running p (heap_of ws b)) f ≡ malformed p (heap_of ws b)
     go (Some (form.At t c)) n p = absurd (n t c refl)
-    go (Some (form.Book c d s)) n p = refl
-    go (Some (form.BookWithTtl c d s l)) n p = refl
+    go (Some (form.Book c d s l)) n p = refl
     go None n p = refl
 
 -- ---- any line

@@ -1,5 +1,5 @@
 -- What a session prints, as the plain book has it.
-use Rattle.std.specs.Prelude.{◌≡◌, Option, None, Some, Result, Ok, Err, ⊤, cond, ◌||◌, List, [], ◌∷◌, ◌++◌, ℕ, ◌<◌, ◌≤◌, ltb, length}
+use Rattle.std.specs.Prelude.{◌≡◌, Option, None, Some, option_map, Result, Ok, Err, ⊤, cond, ◌||◌, List, [], ◌∷◌, ◌++◌, ℕ, ◌<◌, ◌≤◌, ltb, length}
 use Rattle.std.proofs.lemmas.List.Edits.{sets}
 use Rattle.time.specs.declared.tick.Tick.{Tick}
 use Rattle.time.specs.declared.refusal.Refusal.{Refusal}
@@ -83,13 +83,11 @@ unfoldable pub malformed : Book → Heap → Step
 malformed p h = (running p h, line_of (answer.Refused MalformedLine) (counts 0 p h))
 
 abbrev pub step : ℕ → State → Option Form → Step
-step size waiting (Some (form.Book c d s)) = opening size c d s None
-step size waiting (Some (form.BookWithTtl c d s l)) = opening size c d s (Some (duration_of l.secs l.nanos))
+step size waiting (Some (form.Book c d s l)) = opening size c d s (option_map (λ t. duration_of t.secs t.nanos) l)
 step size waiting (Some (form.At t c)) = refused_first MalformedLine
 step size waiting None = refused_first MalformedLine
 step size (running p h) (Some (form.At t c)) = calling (record { 0 = t }) (call_of c) p h
-step size (running p h) (Some (form.Book c d s)) = malformed p h
-step size (running p h) (Some (form.BookWithTtl c d s l)) = malformed p h
+step size (running p h) (Some (form.Book c d s l)) = malformed p h
 step size (running p h) None = malformed p h
 step size ended f = (ended, [])
 

@@ -1,10 +1,12 @@
 // The printer: an answer's one text.
+// Not by `Display`: std says what a `write!` leaves only where it succeeds, `Prints` in every case.
 ghost use Rattle.std.specs.Prelude.{◌≡◌, ◌++◌};
 ghost use Rattle.text.specs.Text.{decimal};
-ghost use Rattle.text.specs.Writing.{Puts};
+ghost use Rattle.text.specs.Writing.{Writes};
 ghost use Rattle.session.specs.Answers.{Prints, head_of, shaped, tail_of};
 
 use expiring_model::Answer;
+use text::Writer;
 
 // Entries discarded by a call, and after it entries in the heap and deadlines held.
 #[derive(Clone, Copy, Default)]
@@ -18,8 +20,10 @@ pub struct Counts {
 pub fn print(out: &mut [u8], answer: Answer, counts: Counts) -> usize
     ensures { Prints out.old answer counts out.new result }
 {
-    let at = head(out, shape_of(answer));
-    tail(out, at, counts)
+    let mut line = Writer { out, at: 0 };
+    head(&mut line, shape_of(answer));
+    tail(&mut line, counts);
+    line.at
 }
 
 // An answer as it is printed: its name, and the numbers behind it.
@@ -52,44 +56,45 @@ fn shape_of(answer: Answer) -> Shape<'static>
 }
 
 // The opening bracket and the answer itself.
-fn head(out: &mut [u8], shape: Shape) -> usize
-    ensures { Puts out.old 0 (shaped shape.entry) out.new result }
+fn head(line: &mut Writer, shape: Shape)
+    ensures { Writes line.old (shaped shape.entry) line.new }
 {
     match shape {
         Shape::Name(name) => {
-            let at = text::put(out, 0, b"(");
-            text::put(out, at, name)
+            line.put(b"(");
+            line.put(name);
         }
         Shape::One(name, number) => {
-            let at = text::put(out, 0, b"((");
-            let at = text::put(out, at, name);
-            let at = field(out, at, b" ", number);
-            text::put(out, at, b")")
+            line.put(b"((");
+            line.put(name);
+            field(line, b" ", number);
+            line.put(b")");
         }
         Shape::Two(name, first, second) => {
-            let at = text::put(out, 0, b"((");
-            let at = text::put(out, at, name);
-            let at = field(out, at, b" ", first);
-            let at = field(out, at, b" ", second);
-            text::put(out, at, b")")
+            line.put(b"((");
+            line.put(name);
+            field(line, b" ", first);
+            field(line, b" ", second);
+            line.put(b")");
         }
     }
 }
 
 // The counts, the closing bracket and the newline.
-fn tail(out: &mut [u8], at: usize, counts: Counts) -> usize
-    ensures { Puts out.old at (tail_of counts) out.new result }
+fn tail(line: &mut Writer, counts: Counts)
+    ensures { Writes line.old (tail_of counts) line.new }
 {
-    let at = field(out, at, b" (thrown ", counts.discarded);
-    let at = field(out, at, b") (heap ", counts.heap);
-    let at = field(out, at, b") (held ", counts.held);
-    text::put(out, at, b"))\n")
+    field(line, b" (thrown ", counts.discarded);
+    field(line, b") (heap ", counts.heap);
+    field(line, b") (held ", counts.held);
+    line.put(b"))\n");
 }
 
 // A text, and a number behind it.
-fn field(out: &mut [u8], at: usize, name: &[u8], number: u64) -> usize
-    ensures { Puts out.old at (name.now ++ decimal number) out.new result }
+#[tactic(auto, using(text::proofs::Laws::writes_then))]
+fn field(line: &mut Writer, name: &[u8], number: u64)
+    ensures { Writes line.old (name.now ++ decimal number) line.new }
 {
-    let at = text::put(out, at, name);
-    text::put_number(out, at, number)
+    line.put(name);
+    line.put_number(number);
 }

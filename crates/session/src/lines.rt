@@ -11,8 +11,9 @@ pub struct Ran {
     pub written: usize,
 }
 
-// Reads lines that end in a newline, one after the other, and writes their answers, until there is no such line left or less
-// than 160 bytes of room.
+// Reads lines that end in a newline, one after the other, and writes their answers, until there is no such line
+// left or less than 160 bytes of room. (Two ends, and where a line starts
+// is known from the one before it: no `for` says that.)
 pub fn run(session: &mut Session, words: &mut [u64], bytes: &[u8], out: &mut [u8]) -> Ran
     ensures { Runs words.old session.old bytes.now out.old words.new session.new out.new result }
 {

@@ -1,13 +1,13 @@
-// One line of a session.
+// One line of a session. That there is room is a contract's fact: the caller lends the rest of its own buffer.
 ghost use Rattle.std.specs.Prelude.{◌≡◌, ◌≤◌, length};
-ghost use Rattle.session.specs.Session.{waiting, step, opening, room, Steps, Begins, Opens, Continues, Replies, Tells};
+ghost use Rattle.session.specs.Session.{waiting, step, room, Steps, Begins, Opens, Continues, Replies, Tells};
 
 use crate::answer::Counts;
 use crate::{answer, ask};
 use expiring::{Expiring, Reply};
 use expiring_model::Answer;
 use forms::Form;
-use time::{Duration, Refusal, Tick};
+use time::{Refusal, Tick};
 
 // A session before its first line, with its book, or after a refused first line.
 #[derive(Clone, Copy)]
@@ -18,8 +18,8 @@ pub enum Session {
 }
 
 impl Session {
-    // Reads a line, without its newline, and writes its answer, which has at most 160 bytes, at the start of what is lent; says how
-    // many bytes it has. Where less is lent nothing is done.
+    // Reads a line, without its newline, and writes its answer, which has at most 160 bytes, at the start of
+    // what is lent; says how many bytes it has. Where less is lent nothing is done.
     pub fn step(&mut self, words: &mut [u64], line: &[u8], out: &mut [u8]) -> usize
         ensures { Steps words.old self.old line.now out.old words.new self.new out.new result }
     {
@@ -72,27 +72,21 @@ impl Session {
 fn open_by(words: &mut [u64], form: Option<Form>) -> Result<Expiring, Refusal>
     ensures { Opens words.old (step (length words.old) waiting form) words.new result }
 {
-    match form {
-        Some(Form::Book(capacity, limit, seq)) => open(words, capacity, limit, seq, None),
-        Some(Form::BookWithTtl(capacity, limit, seq, ttl)) => {
-            open(words, capacity, limit, seq, Some(ask::duration(ttl)))
-        }
-        Some(Form::At(_, _)) | None => Err(Refusal::MalformedLine),
-    }
-}
-
-fn open(
-    words: &mut [u64],
-    capacity: u64,
-    limit: u64,
-    seq: u64,
-    default_ttl: Option<Duration>,
-) -> Result<Expiring, Refusal>
-    ensures { Opens words.old (opening (length words.old) capacity limit seq default_ttl) words.new result }
-{
+    let Some(
+        Form::Book {
+            capacity,
+            limit,
+            seq,
+            default_ttl,
+        },
+    ) = form
+    else {
+        return Err(Refusal::MalformedLine);
+    };
     if 128 < capacity || 128 < limit {
         return Err(Refusal::LimitOutOfRange);
     }
+    let default_ttl = default_ttl.map(ask::duration);
     Expiring::open(words, capacity as usize, limit as usize, seq, default_ttl)
 }
 

@@ -1,4 +1,5 @@
--- What the crates above cite: reading is the way back from writing, how long a text is, and one text behind another.
+-- What the crates above cite: reading is the way back from writing, how long a text is, and one text behind
+-- another.
 use mathlib.Core.Path.{◌≡◌, refl}
 use mathlib.Core.Bool.{true, false}
 use mathlib.Core.List.{List, [], ◌∷◌, ◌++◌}
@@ -12,9 +13,9 @@ use Rattle.text.specs.Reading.{is_digit, read_number, read_in}
 use Rattle.text.proofs.Decimals.{size_le}
 use Rattle.text.proofs.Back.{slots, parted, number_back, format_back}
 use Rattle.text.proofs.Texts.{Found, zeros_small, found}
-pub use Rattle.text.proofs.Formats.{end_sound, after_sound, text_on, field_none, field_some}
+pub use Rattle.text.proofs.Formats.{starts_none, starts_some, ends_is, end_sound, after_sound, left_from, text_on, field_on, field_is, field_none, field_some}
 pub use Rattle.text.proofs.Fills.{fill_size}
-pub use Rattle.text.proofs.Stores.{sets_append, puts_then}
+pub use Rattle.text.proofs.Stores.{sets_append, puts_then, writes_then}
 
 -- ---- what is written is read back
 pub number_read : (v c : ℕ) (s : List ℕ) → v < 2 ^ 64 → is_digit c ≡ false → read_number (decimal v ++ (c ∷ s)) ≡ Some (v, c ∷ s)

@@ -1,14 +1,15 @@
 -- Runs of stores, one after another.
 use mathlib.Core.Path.{◌≡◌, refl, sym, ap, ◌∙◌}
-use mathlib.Core.List.{List, [], ◌∷◌, ◌++◌, append_assoc}
+use mathlib.Core.List.{List, [], ◌∷◌, ◌++◌, append_assoc, append-nil}
 use Prim.Native.Nat.{ℕ, suc, ◌+◌, ◌-◌, ◌/◌, ◌%◌, ◌<◌, ◌≤◌}
 use native.Mathlib.Nat.{add-suc, suc-add, add-zero}
 use native.Mathlib.Omega.{arith}
 use borrow.Rule.Slice.PartMut.{put_mid}
-use lib.ListN.{length, length-append, length-set, take, drop, set}
+use lib.ListN.{length, length-append, length-set, take, drop, set, drop_of_length-le}
 use lib.Seq.{sets, sets-eq, length-sets, set_comm, drop-drop}
 use Rattle.text.specs.Text.{digit, decimal}
-use Rattle.text.specs.Writing.{last_digits, Puts}
+use Rattle.text.specs.declared.writer.Writer.{Writer}
+use Rattle.text.specs.Writing.{last_digits, Puts, Writes}
 use Rattle.text.proofs.Decimals.{one_digit, all_digits, length_last}
 
 -- a store past a run may come before it
@@ -29,17 +30,25 @@ last_first l i k n =
     sets_append l i (last_digits k (n / 10)) (digit (n % 10) ∷ [])
     ∙ rw (length_last k (n / 10)) (sets_set l i (i + k) (digit (n % 10)) (last_digits k (n / 10)) (rw (length_last k (n / 10)) (omega arith)))
 
-pub digit_first : (l : List ℕ) (at i n : ℕ) → at < i → sets l at (last_digits (i - at) n) ≡ sets (set l (i - 1) (digit (n % 10))) at (last_digits (i - 1 - at) (n / 10))
-digit_first l at i n h =
-    let p : i - at ≡ suc (i - 1 - at) = omega arith in
-    let q : at + (i - 1 - at) ≡ i - 1 = omega arith in
-    rw p (last_first l at (i - 1 - at) n ∙ rw q refl)
+module _ (l : List ℕ) (i n : ℕ) where
+  pub digit_first : 0 < i → sets l 0 (last_digits i n) ≡ sets (set l (i - 1) (digit (n % 10))) 0 (last_digits (i - 1) (n / 10))
+  digit_first h =
+      let p : i ≡ suc (i - 1) = omega arith in
+      let q : 0 + (i - 1) ≡ i - 1 = omega arith in
+      ap (λ (j : ℕ). sets l 0 (last_digits j n)) p ∙ last_first l 0 (i - 1) n ∙ rw q refl
 
-pub no_digit : (l : List ℕ) (at i n : ℕ) → i ≤ at → sets l at (last_digits (i - at) n) ≡ l
-unfolding last_digits
-no_digit l at i n h =
-    let p : i - at ≡ 0 = omega arith in
-    rw p refl
+  pub no_digit : i ≤ 0 → sets l 0 (last_digits i n) ≡ l
+  unfolding last_digits
+  no_digit h =
+      let p : i ≡ 0 = omega arith in
+      rw p refl
+
+-- a slice that digits fill
+pub all_set : (l : List ℕ) (n : ℕ) → sets l 0 (last_digits (length l) n) ≡ last_digits (length l) n
+all_set l n = sets-eq (last_digits (length l) n) l 0 (omega (arith, size)) ∙ rw (size, drop_of_length-le l {i = 0 + length l} (omega arith)) (append-nil (last_digits (length l) n))
+  where
+    size : length (last_digits (length l) n) ≡ length l
+    size = length_last (length l) n
 
 -- ---- one text behind another
 pub puts_then : {out out₁ out₂ : List ℕ} {at m n : ℕ} {t u : List ℕ} → Puts out at t out₁ m → Puts out₁ m u out₂ n → Puts out at (t ++ u) out₂ n
@@ -59,6 +68,9 @@ puts_then {out} {out₁} {out₂} {at} {m} {n} {t} {u} p q = record {
     second : at + length (t ++ u) ≤ length out → m + length u ≤ length out₁
     second h = omega (arith, both, p.ends (first h), p.size)
 
+pub writes_then : {w w₁ w₂ : Writer} {t u : List ℕ} → Writes w t w₁ → Writes w₁ u w₂ → Writes w (t ++ u) w₂
+writes_then p q = record { same_reference = q.same_reference ∙ p.same_reference; puts = puts_then p.puts q.puts }
+
 pub no_room : (out : List ℕ) (at : ℕ) (t : List ℕ) → length out < at + length t → Puts out at t out (length out)
 no_room out at t full = record { ends = λ h. absurd (omega arith); written = λ h. absurd (omega arith); within = omega arith; size = refl }
 
@@ -77,13 +89,8 @@ puts_text out at t room e = rw e (record {
         rw n (ap (λ (l : List ℕ). take at out ++ (t ++ l)) (drop-drop (length t) at out) ∙ sym (append_assoc (take at out) t (drop (at + length t) out))) ∙ sym (sets-eq t out at room)
 
 -- ---- a number
-pub puts_number : (out : List ℕ) (at n : ℕ) (out' : List ℕ) (count : ℕ) → count ≡ length (decimal n) → at + count ≤ length out → out' ≡ sets out at (last_digits count n) → Puts out at (decimal n) out' (at + count)
-puts_number out at n out' count e room h = record {
-  ends = λ _. ap (λ (k : ℕ). at + k) e;
-  written = λ _. h ∙ rw e (rw (all_digits 20 n) refl);
-  within = room;
-  size = ap length h ∙ length-sets out at (last_digits count n);
-}
+pub puts_number : (out : List ℕ) (at n : ℕ) {count : ℕ} {t' : List ℕ} → count ≡ length (decimal n) → at + count ≤ length out → t' ≡ last_digits count n → Puts out at (decimal n) (put_mid at (at + count - at) out t') (at + count)
+puts_number out at n e room h = rw e (puts_text out at (decimal n) (omega (arith, e, room)) (h ∙ rw e (all_digits 20 n)))
 
 pub puts_digit : (out : List ℕ) (at n : ℕ) → n < 10 → at < length out → Puts out at (decimal n) (set out at (digit n)) (at + 1)
 puts_digit out at n small room = rw (one_digit n small) (record { ends = λ _. refl; written = λ _. refl; within = omega arith; size = length-set out at (digit n) })

@@ -1,6 +1,6 @@
 -- What reading a text by a format comes to. That it is the way back from `fill` is shown in proofs/.
-use Rattle.std.specs.Prelude.{◌≡◌, Option, None, Some, IfSome, Bool, true, false, cond, not, ◌&&◌, List, [], ◌∷◌, ℕ, suc, ◌+◌, ◌-◌, ◌*◌, ◌^◌, ◌≤◌, ltb, leb, eqb, length, drop, set}
-use Rattle.text.specs.declared.number.Number.{Number}
+use Rattle.std.specs.Prelude.{◌≡◌, Option, None, Some, option_map, Bool, true, false, cond, not, ◌&&◌, List, [], ◌∷◌, ℕ, suc, ◌+◌, ◌-◌, ◌*◌, ◌^◌, ltb, leb, eqb, set}
+use Rattle.std.specs.Borrow.{Bor}
 
 abbrev pub is_digit : ℕ → Bool
 is_digit c = leb 48 c && leb c 57
@@ -38,6 +38,10 @@ is_end (Some (c ∷ s)) = false
 abbrev pub number_after : List ℕ → List ℕ → Option (ℕ × List ℕ)
 number_after t s = and_then (read_text t s) (λ r. read_number r)
 
+-- a number behind it, and behind that another text, which is all that is left
+abbrev pub number_between : List ℕ → List ℕ → List ℕ → Option ℕ
+number_between t u s = and_then (number_after t s) (λ r. cond (is_end (read_text u r.1)) (Some r.0) None)
+
 -- ---- a text by a format: its numbers, at most five, with zeros after them, and the text after it
 unfoldable pub read_from : ℕ → List ℕ → List ℕ → List ℕ → Option (List ℕ × List ℕ)
 read_from k ns [] s = Some (ns, s)
@@ -52,28 +56,26 @@ abbrev pub read_in : List ℕ → List ℕ → Option (List ℕ × List ℕ)
 read_in f s = read_from 0 (0 ∷ 0 ∷ 0 ∷ 0 ∷ 0 ∷ []) f s
 
 -- ---- what the functions promise
--- a number that was found in a line, with the text after it
-abbrev pub number_in : List ℕ → Option Number → Option (ℕ × List ℕ)
-number_in line None = None
-number_in line (Some n) = Some (n.value, drop n.end line)
+-- a number that was found, with the text after it
+abbrev pub number_in : Option (ℕ × Bor (List ℕ)) → Option (ℕ × List ℕ)
+number_in r = option_map (λ n. (n.0, n.1.now)) r
 
--- the number that is read is found, and it ends within the line
-pub record Finds (line : List ℕ) (read : Option (ℕ × List ℕ)) (r : Option Number) : Type 0 where
-  pub number : number_in line r ≡ read
-  pub within : IfSome r (λ n. n.end ≤ length line)
+abbrev pub ReadsNumber : List ℕ → Option (ℕ × Bor (List ℕ)) → Type 0
+ReadsNumber line r = number_in r ≡ read_number line
 
-abbrev pub ReadsNumber : List ℕ → ℕ → Option Number → Type 0
-ReadsNumber line at r = Finds line (read_number (drop at line)) r
+abbrev pub ReadsOn : List ℕ → ℕ → Option (ℕ × Bor (List ℕ)) → Type 0
+ReadsOn line v r = number_in r ≡ read_on v line
 
-abbrev pub ReadsOn : List ℕ → ℕ → ℕ → Option Number → Type 0
-ReadsOn line from v r = Finds line (read_on v (drop from line)) r
+abbrev pub ReadsAfter : List ℕ → List ℕ → Option (ℕ × Bor (List ℕ)) → Type 0
+ReadsAfter line t r = number_in r ≡ number_after t line
 
-abbrev pub ReadsAfter : List ℕ → ℕ → List ℕ → Option Number → Type 0
-ReadsAfter line at t r = Finds line (number_after t (drop at line)) r
+abbrev pub ReadsBetween : List ℕ → List ℕ → List ℕ → Option ℕ → Type 0
+ReadsBetween line t u r = r ≡ number_between t u line
 
-pub record Starts (line : List ℕ) (at : ℕ) (t : List ℕ) (r : Bool) : Type 0 where
-  pub text : cond r (Some (drop (at + length t) line)) None ≡ read_text t (drop at line)
-  pub within : r ≡ true → length t ≤ length line - at
+-- what a line that starts with a text has behind it, as `strip_prefix` tells it
+abbrev pub Starts : List ℕ → List ℕ → Option (List ℕ) → Type 0
+Starts line t r = r ≡ read_text t line
 
-pub record Ends (line : List ℕ) (at : ℕ) (t : List ℕ) (r : Bool) : Type 0 where
-  pub is : r ≡ is_end (read_text t (drop at line))
+-- whether a text is all of a line, as `==` tells it
+abbrev pub Ends : List ℕ → List ℕ → Bool → Type 0
+Ends line t r = r ≡ is_end (read_text t line)

@@ -1,7 +1,7 @@
 // Texts of bytes with numbers in them, read and written by pieces: a text that is known, or a number.
 //
-// A number is in base ten without leading zeros, and below 2^64. What a text and its numbers come to is said by a format, a
-// text in which each `0` stands for a number.
+// A number is in base ten without leading zeros, and below 2^64. What a text and its numbers come to is said by a
+// format, a text in which each `0` stands for a number.
 //
 //     format   (ttl 0 0)      text   (ttl 2 500000000)      numbers   2, 500000000
 //
@@ -12,6 +12,6 @@ mod number;
 mod reader;
 mod writer;
 
-pub use number::Number;
-pub use reader::{ends, number_after, starts};
-pub use writer::{put, put_number};
+pub use number::with_digit;
+pub use reader::{number_after, number_between};
+pub use writer::Writer;

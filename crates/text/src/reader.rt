@@ -1,38 +1,21 @@
-// Reading by pieces: a text that stands at a place of a line, and a number behind it.
-ghost use Rattle.std.specs.Prelude.{◌≡◌, drop};
-ghost use Rattle.text.specs.Reading.{Starts, Ends, ReadsAfter};
+// Reading by pieces: a text that a line starts with, and a number behind it.
+ghost use Rattle.text.specs.Reading.{ReadsAfter, ReadsBetween};
 
 use crate::number;
-use crate::number::Number;
 
-// What a line has from a place on. Past its end that is nothing.
-fn rest(line: &[u8], at: usize) -> &[u8]
-    ensures { result.now ≡ drop at line.now }
+// The number behind a text that a line starts with, and what the line has behind it.
+#[tactic(auto, using(crate::proofs::Formats::starts_none, crate::proofs::Formats::starts_some))]
+pub fn number_after<'a>(line: &'a [u8], text: &[u8]) -> Option<(u64, &'a [u8])>
+    ensures { ReadsAfter line.now text.now result }
 {
-    line.get(at..).unwrap_or(&[])
+    number::number(line.strip_prefix(text)?)
 }
 
-// Whether a text stands at a place of a line.
-pub fn starts(line: &[u8], at: usize, text: &[u8]) -> bool
-    ensures { Starts line.now at text.now result }
+// The number that a line has between two texts, where they are all of it.
+#[tactic(auto, using(crate::proofs::Formats::ends_is))]
+pub fn number_between(line: &[u8], before: &[u8], behind: &[u8]) -> Option<u64>
+    ensures { ReadsBetween line.now before.now behind.now result }
 {
-    rest(line, at).starts_with(text)
-}
-
-// Whether a text is all that a line has from a place on.
-#[tactic(auto, using(crate::proofs::Formats::ends_at))]
-pub fn ends(line: &[u8], at: usize, text: &[u8]) -> bool
-    ensures { Ends line.now at text.now result }
-{
-    rest(line, at) == text
-}
-
-// The number behind a text that stands at a place of a line.
-pub fn number_after(line: &[u8], at: usize, text: &[u8]) -> Option<Number>
-    ensures { ReadsAfter line.now at text.now result }
-{
-    if !starts(line, at, text) {
-        return None;
-    }
-    number::number_at(line, at + text.len())
+    let (number, rest) = number_after(line, before)?;
+    (rest == behind).then_some(number)
 }

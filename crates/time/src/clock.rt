@@ -1,4 +1,5 @@
-// A clock that moves only when its owner says so.
+// A clock that moves only when its owner says so. `set` and `advance` stand twice, of a clock by value and of one
+// lent: the scope document asks for both. The lent ones take the step by value.
 ghost use Rattle.std.specs.Prelude.{◌≡◌};
 ghost use Rattle.time.specs.Clock.{clock_at, advanced, outcome_of, clock_after};
 

@@ -22,7 +22,8 @@ pub struct Duration {
 pub struct TtlTicks(pub u64);
 
 impl Duration {
-    // Of two numbers from outside. Nanoseconds beyond 32 bits are taken for the largest of 32 bits, which is refused too.
+    // Of two numbers from outside; no `From`, which would take a pair. Nanoseconds beyond 32 bits are taken for
+    // the largest of 32 bits, which is refused too.
     pub fn of(secs: u64, nanos: u64) -> Duration
         ensures { result ≡ duration_of secs nanos }
     {
@@ -32,7 +33,8 @@ impl Duration {
         }
     }
 
-    // Exactly zero: 999,999 nanoseconds are not, though they have 0 ticks.
+    // Exactly zero: 999,999 nanoseconds are not, though they have 0 ticks. (A derived `==` and `default`, for this
+    // one test, would be no plainer than its two.)
     #[tactic(auto, unfolding(crate::specs::Duration::is_zero))]
     pub fn is_zero(self) -> bool
         ensures { result ≡ is_zero self }
@@ -40,7 +42,7 @@ impl Duration {
         self.secs == 0 && self.nanos == 0
     }
 
-    // The whole milliseconds, at most u64::MAX. (`as_millis` answers a u128.)
+    // The whole milliseconds, at most u64::MAX. (std's `as_millis` answers a u128.)
     #[tactic(auto, unfolding(crate::specs::Duration::millis_of))]
     pub fn as_millis(self) -> u64
         ensures { result ≡ millis_of self }

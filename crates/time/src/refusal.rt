@@ -4,7 +4,7 @@ ghost use Rattle.time.specs.Refusal.{number_of};
 
 #[derive(Clone, Copy, PartialEq, Eq)]
 pub enum Refusal {
-    // A capacity above 4,096, a key limit outside 1..4,096, or numbers that no accepted opening hands back.
+    // A capacity above 4,096, a key limit outside 1..4,096, or numbers that no accepted opening makes.
     LimitOutOfRange = 1,
     TooFewWords = 2,
     // A duration with 1,000,000,000 nanoseconds or more.
@@ -18,6 +18,7 @@ pub enum Refusal {
 }
 
 impl Refusal {
+    // Under a name, for calls in other languages; a `From` would stand away from the numbers.
     pub fn number(self) -> u64
         ensures { result ≡ number_of self }
     {

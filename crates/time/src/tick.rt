@@ -11,6 +11,7 @@ const LAST_TICK: u64 = u64::MAX - 1;
 pub struct Tick(pub u64);
 
 impl Tick {
+    // Named as the Rust's own.
     pub fn as_u64(self) -> u64
         ensures { result ≡ self.0 }
     {

@@ -1,7 +1,9 @@
 // Document 01, "The session program": reads standard input to its end, and answers each line on standard output.
 //
-// The answers to a block of input are written before the next block is read, so that whoever waits for an answer at the other
-// end of a pipe gets it.
+// The answers to a block of input are written before the next block is read, so that whoever waits for an answer
+// at the other end of a pipe gets it.
+//
+// No heap: the blocks are fixed and lent, and of each only the first bytes count, `kept` or `size` of them.
 #![tactic(auto)]
 
 ghost use Rattle.std.specs.Prelude.{◌≡◌, ◌+◌, ◌≤◌, length, take};
@@ -25,7 +27,8 @@ fn words() -> [u64; 5248]
     [0; 5248]
 }
 
-// Every loop has to end, and nothing says that an input does: the blocks are counted up to a number that no run reaches.
+// Every loop has to end, and nothing says that an input does: the blocks are counted up to a number that no run
+// reaches.
 fn answer_all(
     rt: &impl Print,
     input: &mut impl Read,
@@ -43,8 +46,9 @@ fn answer_all(
     }
 }
 
-// Reads a block behind what is kept, the start of a line whose end has not been read, and answers its lines. Says how many bytes
-// are kept then, or that the run is over. At the end of the input a last line that lacks its newline is given it.
+// Reads a block behind what is kept, the start of a line whose end has not been read, and answers its lines.
+// Says how many bytes are kept then, or that the run is over. At the end of the input a last line that lacks its
+// newline is given it.
 fn answer_block(
     rt: &impl Print,
     input: &mut impl Read,
@@ -77,7 +81,8 @@ fn read_behind(input: &mut impl Read, bytes: &mut [u8], kept: usize) -> usize
     input.read(&mut bytes[kept..]).unwrap_or(0)
 }
 
-// Answers the lines of the first bytes, as many of them as there are, and keeps what is left. A write that fails ends the run.
+// Answers the lines of the first bytes, as many of them as there are, and keeps what is left. A write that fails
+// ends the run. (A `while`, since a turn takes as many bytes as it read.)
 fn answer_lines(
     rt: &impl Print,
     session: &mut Session,
@@ -100,7 +105,8 @@ fn answer_lines(
     keep(*session, bytes, start, size)
 }
 
-// Moves what is left of the bytes to the start. A line of more than 200 bytes is no form, so that 201 of its bytes are enough.
+// Moves what is left of the bytes to the start. A line of more than 200 bytes is no form, so that 201 of its bytes
+// are enough.
 fn keep(session: Session, bytes: &mut [u8], start: usize, size: usize) -> Option<usize>
     requires { (start ≤ size) × (size ≤ length bytes.old) }
     ensures { Keeps session bytes.old start size bytes.new result }

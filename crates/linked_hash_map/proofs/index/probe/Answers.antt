@@ -3,7 +3,7 @@ use mathlib.Core.Path.{◌≡◌, refl, sym, ◌∙◌}
 use Prim.Native.Nat.{◌+◌, ◌-◌, ◌*◌}
 use native.Mathlib.Omega.{arith}
 use Rattle.cells.proofs.Probing.{home_lt, after_lt, from_home, on_mine, turn_miss}
-use Rattle.linked_hash_map.proofs.Passing.{offers, passes, is_cell, ends_free, ends_full}
+use Rattle.linked_hash_map.proofs.Passing.{offers, passes, is_cell, ends}
 use Rattle.linked_hash_map.proofs.index.probe.Goals as goal
 use Rattle.linked_hash_map.proofs.index.probe.Goals.{then-v-n+else-words-s, else-v-n}
 
@@ -30,8 +30,5 @@ loop-preserved c =
       | else-v-n w ↦ rw (w.free-is, w.or-free.ensures) (rw next (after_lt _ _ within), is_cell _ _ _ low within, rw left (passes _ _ _ _ _ _ low (omega arith) _ _ next so_far used (rw v at w.if-v-n.false)))
     ]
 
-pub returns-in-Some : goal.returns-in-Some
-returns-in-Some c = ends_free _ _ _ _ _ _ (omega arith) (rw c.in-Some.is at c.loop.invariant.1) ∙ rw c.in-Some.is at c.loop.invariant.2
-
-pub returns-in-None : goal.returns-in-None
-returns-in-None c = ends_full _ _ _ _ _ (omega arith) ∙ rw c.in-None.is at c.loop.invariant.2
+pub returns : goal.returns
+returns c = ends _ _ _ _ _ _ c.loop.invariant.1 (omega arith) _ c.map_or.ensures ∙ c.loop.invariant.2

@@ -12,7 +12,7 @@ returns c =
     let ran = c.run.ensures in
     record {
       few = λ h. absurd (omega (arith, c.if-numbers-lt12.false));
-      ended = λ _. rw c.room.ensures at ran.0;
+      ended = λ _. rw c.room-room.ensures at ran.0;
       run = λ _. ran.1;
       past = run_past ran.1;
     }

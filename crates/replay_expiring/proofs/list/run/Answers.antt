@@ -7,11 +7,11 @@ use Rattle.replay_expiring.proofs.list.run.Goals as goal
 pub loop-i-init : goal.loop-i-init
 loop-i-init c = none
 
-pub returns-then-asked-ge-OPERATIONS : goal.returns-then-asked-ge-OPERATIONS
-returns-then-asked-ge-OPERATIONS c = (record { within = omega (arith, c.loop-i-test.true); all = λ _. rw c.asked_at-asked.ensures at c.if-asked-ge-OPERATIONS.true }, c.loop-i.invariant)
+pub returns-then-operation-ge-OPERATIONS : goal.returns-then-operation-ge-OPERATIONS
+returns-then-operation-ge-OPERATIONS c = (record { within = omega (arith, c.loop-i-test.true); all = λ _. rw c.operation_at-operation.ensures at c.if-operation-ge-OPERATIONS.true }, c.loop-i.invariant)
 
 pub loop-i-preserved : goal.loop-i-preserved
-loop-i-preserved c = more c.loop-i.invariant (rw c.asked_at-asked.ensures at c.turn.ensures)
+loop-i-preserved c = more c.loop-i.invariant c.turn.ensures
 
 pub returns : goal.returns
 returns c =

@@ -1,6 +1,6 @@
-use Rattle.text.proofs.Laws.{puts_then}
-use Rattle.session.proofs.Printing.{line_parts}
+use borrow.Author.Rules.{rules}
+use Rattle.session.proofs.Printing.{parts_written}
 use Rattle.session.proofs.answer.print.Goals as goal
 
 pub returns : goal.returns
-returns c = rw (line_parts _ _) at (puts_then (rw c.shape_of.ensures at c.head-at.ensures) c.tail.ensures)
+returns c = parts_written _ _ c.shape_of.ensures c.head.ensures.puts c.tail.ensures.puts (search rules)

@@ -1,12 +1,15 @@
-use mathlib.Core.Path.{sym, ◌∙◌}
+use mathlib.Core.Path.{sym, ap, ◌∙◌}
 use mathlib.Core.Bool.{true≢false}
-use Rattle.expiring.proofs.Limits.{no_book_lem}
+use Rattle.std.specs.Result.{is_ok}
+use Rattle.expiring.proofs.Limits.{room_limits, book_room}
+use Rattle.expiring.proofs.expiring.Expiring.check.Goals.{then-is_ok, else-is_ok}
 use Rattle.expiring.proofs.expiring.Expiring.check.Goals as goal
 
-pub returns-in-Err : goal.returns-in-Err
-returns-in-Err c = record { sound = λ q. absurd (true≢false (sym q)); complete = λ o. absurd (no_book_lem _ _ (sym c.limits.ensures ∙ c.in-Err.is) o) }
-
-pub returns-then-check : goal.returns-then-check
-returns-then-check c =
-    let k = rw c.deadlines.ensures at c.check-then-check.ensures in
-    record { sound = λ q. record { list = c.check.ensures.sound c.if-check.true; index = k.sound q }; complete = λ o. k.complete o.index }
+pub returns-else-check : goal.returns-else-check
+returns-else-check c = record {
+  sound = λ q. absurd (true≢false (sym q ∙ c.if-check.false));
+  complete = λ o. elim c.if-is_ok.branch [
+    | then-is_ok w ↦ w.value-is ∙ w.check.ensures.complete o.list
+    | else-is_ok w ↦ w.value-is ∙ c.is_ok.ensures.value ∙ ap is_ok (c.limits.ensures.told ∙ room_limits (book_room o))
+  ];
+}

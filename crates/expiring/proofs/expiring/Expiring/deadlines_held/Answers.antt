@@ -5,7 +5,7 @@ use Rattle.expiring.proofs.Asking.{counted_held, counted_none}
 use Rattle.expiring.proofs.expiring.Expiring.deadlines_held.Goals as goal
 
 pub returns-in_err-limits : goal.returns-in_err-limits
-returns-in_err-limits c = rw (handed_on c.from_residual.ensures) (counted_none (sym c.limits.ensures ∙ c.in_err-limits.was))
+returns-in_err-limits c = rw (handed_on c.from_residual.ensures) (counted_none (sym c.limits.ensures.told ∙ c.in_err-limits.was))
 
 pub returns : goal.returns
-returns c = counted_held (limits_room _ _ _ (sym c.limits.ensures ∙ c.in_ok-limits.was)) (rw c.deadlines.ensures at c.len.ensures)
+returns c = counted_held (limits_room _ _ _ (sym c.limits.ensures.told ∙ c.in_ok-limits.was)) (rw c.deadlines.ensures at c.len.ensures)

@@ -1,6 +1,4 @@
-use mathlib.Core.Path.{sym, ◌∙◌}
-use Rattle.expiring.proofs.Acting.{follow_limits}
 use Rattle.expiring.proofs.expiring.Expiring.next_deadline.Goals as goal
 
-pub returns-in-Err : goal.returns-in-Err
-returns-in-Err c = rw c.refused.ensures (follow_limits _ _ _ _ (sym c.limits.ensures ∙ c.in-Err.is))
+pub returns : goal.returns
+returns c = rw c.told.ensures (c.try_next_deadline-said.ensures _)

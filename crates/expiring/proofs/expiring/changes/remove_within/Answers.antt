@@ -10,5 +10,5 @@ pub returns : goal.returns
 returns c =
     let o = c.drop_deadline-old.ensures in
     let ns = c.args.numbers.now in
-    let w : get_or ns 11 0 < 2 ^ 64 = omega (arith, c.slice_known-1.given 11) in
+    let w : get_or ns 11 0 < 2 ^ 64 = omega (arith, c.fits-numbers 11) in
     (stay_then o.stay (stay_then c.drop_value-found.ensures.stay c.concluded.ensures.stay), rw c.saying.ensures (concludes ns o.moved (λ _. refl) o.held w c.concluded.ensures c.drop_value-found.ensures))

@@ -11,5 +11,5 @@ returns-then-score-e c = record { answer = λ p v. sym (first_above _ v c.args.s
 pub returns-then-self : goal.returns-then-self
 returns-then-self c = counting_entries (omega arith) c.count_entries.ensures
 
-pub returns-in-None : goal.returns-in-None
-returns-in-None c = record { answer = λ p v. sym (none_above _ v _ (first_none _ (sym (c.top.ensures.answer p) ∙ c.in-None.is))) }
+pub returns-in_default : goal.returns-in_default
+returns-in_default c = record { answer = λ p v. sym (none_above _ v _ (first_none _ (sym (c.top.ensures.answer p) ∙ c.in_default.is))) }

@@ -9,10 +9,10 @@ pub returns-then-scores : goal.returns-then-scores
 returns-then-scores c = rebuilding_none _ _ c.if-scores.true c.surplus-discarded.ensures
 
 pub loop-init : goal.loop-init
-loop-init c = let all : c.args.self.now.scores.len - 0 ≡ c.args.self.now.scores.len = omega arith in rw (all, c.slot_number-s.ensures) (refilling_start _ _ _ _ refl c.last.ensures)
+loop-init c = let all : c.args.self.now.scores.len - 0 ≡ c.args.self.now.scores.len = omega arith in rw (all, c.unwrap_or-slot.ensures) (refilling_start _ _ refl c.last.ensures)
 
 pub loop-preserved : goal.loop-preserved
-loop-preserved c = rw c.slot_number-s-in-loop.ensures (refilling_on c.loop.invariant (omega arith) c.record-r.ensures c.push.ensures _ c.previous.ensures)
+loop-preserved c = refilling_on c.loop.invariant (omega arith) c.record_at-r.ensures c.push.ensures c.slot_before-slot.ensures
 
 pub returns : goal.returns
 returns c = rebuilding c.loop.invariant c.surplus-discarded.ensures (λ p. omega arith)

@@ -2,7 +2,7 @@
 use mathlib.Core.Path.{sym}
 use Rattle.cells.proofs.Probing.{at_found}
 use Rattle.cells.proofs.Indexing.{erased_length}
-use Rattle.linked_hash_map.proofs.Probed.{ends, ends_not, ends_room, none_at}
+use Rattle.linked_hash_map.proofs.Probed.{ends, ends_not, ends_room}
 use Rattle.linked_hash_map.proofs.Recycling.{recycling_refused, recycling_none, recycling_at}
 use Rattle.linked_hash_map.proofs.map.LinkedHashMap.recycle.Goals as goal
 
@@ -20,5 +20,5 @@ renew-requires c =
 pub returns-in-At : goal.returns-in-At
 returns-in-At c = let o = ends _ _ _ (rw c.in-At.is at (sym c.in-Ok.ensures)) in recycling_at _ _ _ _ _ _ o.fits o.at _ _ (rw c.erase.ensures at c.renew.ensures)
 
-pub returns-in-Free : goal.returns-in-Free
-returns-in-Free c = recycling_none _ _ (ends _ _ _ (sym c.in-Ok.ensures)) (none_at c.in-Free.is)
+pub returns-in_default-place : goal.returns-in_default-place
+returns-in_default-place c = recycling_none _ _ (ends _ _ _ (sym c.in-Ok.ensures)) c.in_default-place.not-At

@@ -1,7 +1,7 @@
 use mathlib.Core.Path.{sym}
 use native.Mathlib.Omega.{arith}
 use Rattle.cells.proofs.Probing.{at_found}
-use Rattle.linked_hash_map.proofs.Probed.{ends, ends_not, ends_room, none_at}
+use Rattle.linked_hash_map.proofs.Probed.{ends, ends_not, ends_room}
 use Rattle.linked_hash_map.proofs.Finding.{writing_refused, writing_at, writing_none}
 use Rattle.linked_hash_map.proofs.map.LinkedHashMap.set_payload.Goals as goal
 
@@ -18,5 +18,5 @@ write_record-requires c =
 pub returns-in-At : goal.returns-in-At
 returns-in-At c = rw c.write_record.ensures (writing_at _ _ _ (ends _ _ _ (rw c.in-At.is at (sym c.in-Ok.ensures))))
 
-pub returns-in-Free : goal.returns-in-Free
-returns-in-Free c = writing_none _ (ends _ _ _ (sym c.in-Ok.ensures)) (none_at c.in-Free.is)
+pub returns : goal.returns
+returns c = writing_none _ (ends _ _ _ (sym c.in-Ok.ensures)) c.in_default-place.not-At

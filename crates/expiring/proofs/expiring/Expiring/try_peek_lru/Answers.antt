@@ -1,0 +1,10 @@
+use mathlib.Core.Path.{sym, ◌∙◌}
+use Rattle.expiring.proofs.Acting.{look_limits}
+use Rattle.expiring.proofs.Following.{follow_oldest}
+use Rattle.expiring.proofs.expiring.Expiring.try_peek_lru.Goals as goal
+
+pub returns-in_err-limits : goal.returns-in_err-limits
+returns-in_err-limits c = λ t. look_limits _ c.limits.ensures.told c.in_err-limits.was c.from_residual.ensures
+
+pub returns : goal.returns
+returns c = λ t. follow_oldest _ _ _ (sym c.limits.ensures.told ∙ c.in_ok-limits.was) c.limits.ensures.word c.peek_lru.ensures c.of_oldest.ensures
