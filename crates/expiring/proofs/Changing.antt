@@ -13,7 +13,7 @@ use Rattle.std.specs.Prelude.{Option, None, Result, Ok, Err, ⊤}
 use Rattle.std.specs.Result.{result_unwrap_or}
 use Rattle.limits.specs.Limits.{book_limits}
 use Rattle.time.specs.declared.tick.Tick.{Tick}
-use Rattle.time.specs.declared.refusal.Refusal.TheVariants.{TooFewWords}
+use Rattle.time.specs.declared.refusal.Refusal.TheVariants.{TooFewWords, InvalidNanos}
 use Rattle.time.specs.declared.refusal.Refusal.{Refusal}
 use Rattle.time.specs.declared.duration.TtlTicks.{TtlTicks}
 use Rattle.lazy_heap_model.specs.declared.counted.Counted.{Counted}
@@ -27,7 +27,7 @@ use Rattle.expiring_model.specs.declared.answers.Answer.{Answer}
 use Rattle.expiring_model.specs.declared.answers.Answer.TheVariants as answers
 use Rattle.expiring.specs.declared.answers.Reply.{Reply}
 use Rattle.expiring.specs.declared.expiring.Expiring.{Expiring}
-use Rattle.expiring_model.specs.Model.{Call, Change, keep, drop}
+use Rattle.expiring_model.specs.Model.{Call, Change, keep, drop, bad_nanos}
 use Rattle.expiring.specs.Book.{capacity_of, limit_of, IsBook}
 use Rattle.expiring.specs.Calls.{Following}
 use Rattle.expiring.specs.Numbers.{lru_in, index_in, book_in, with_lru, with_deadlines, with_held, with_expiration, with_book}
@@ -35,7 +35,7 @@ use Rattle.expiring_answers.specs.Answers.{of_found, come_by}
 use Rattle.expiring.specs.Steps.{stored_of, DeadlineOf, Moved, same, Dating, beyond, expired_in, value_of, unless, Acting, Inserting}
 use Rattle.expiring.specs.Changes.{RoomIn, Ready, Stay, reply_in, saying, admitted, too_few_numbers, Setting, Dropping, Valuing, Putting, Concluding, Changing}
 use Rattle.expiring.proofs.Moving.{lent, back, index_kept, moved_drop, moved_later}
-use Rattle.expiring.proofs.Acting.{follow_limits}
+use Rattle.expiring.proofs.Acting.{follow_limits, follow_nanos}
 use Rattle.expiring.proofs.Limits.{err_ok, same_err, limits_room, room_limits}
 use Rattle.expiring.proofs.Calling.{conclude}
 use Rattle.expiring.proofs.Valuing.{value_of_lem, moved_values, said_changing, dating, removed_held}
@@ -125,13 +125,23 @@ module _ {ns ws : List ℕ} {t : Tick} {c : Call} where
       (λ few. changing_refused few (ap (λ (w : Refusal). saying (answers.Refused w)) (same_err (sym e ∙ rw (lt-ltb (length ns) 12 few)))))
       (λ h. changing h (stay_same ns) (follow_limits ws (book_in ns) t c (sym (rw (le-ltb (length ns) 12 h)) ∙ e)))
 
--- a call on the first twelve numbers is one on all of them
-pub on_front : (ns ns' : List ℕ) {front ws ws' : List ℕ} {t : Tick} {c : Call} {r : Counted Answer} → 12 ≤ length ns → front ≡ take 12 ns → Stay front ns' → Following ws (book_in front) t c ws' (reply_in ns' r) → Changing ns ws t c (ns' ++ numbers.drop 12 ns) ws' r
-on_front ns ns' {front} {ws} {ws'} {t} {c} {r} h e s o =
-    let long : 12 ≤ length ns' = omega (arith, s.size, front_size ns h e) in
-    changing h (stay_front ns ns' h (subst (λ l. Stay l ns') e s))
-    (subst (λ b. Following ws (book_in ns) t c ws' (record { book = b; answer = r.answer; discarded = r.discarded })) (sym (book_back ns' (numbers.drop 12 ns) long))
-    (subst (λ b. Following ws b t c ws' (reply_in ns' r)) (ap book_in e ∙ book_front ns h) o))
+-- a call on the first twelve numbers of an admitted book is one on all of them
+module _ (ns ws : List ℕ) {first : List ℕ} (e : admitted ns (length ws) ≡ Ok tt) (front : first ≡ take 12 ns) where
+  pub limits_front : book_limits (capacity_of (book_in first)) (limit_of (book_in first)) (length ws) ≡ Ok tt
+  limits_front = room_limits (room_front ns front (admitted_ready ns e))
+
+  module _ {t : Tick} {c : Call} where
+    pub on_front : (ns' : List ℕ) {ws' : List ℕ} {r : Counted Answer} → Stay first ns' → Following ws (book_in first) t c ws' (reply_in ns' r) → Changing ns ws t c (ns' ++ numbers.drop 12 ns) ws' r
+    on_front ns' {ws'} {r} s o =
+        let h = (admitted_ready ns e).numbers in
+        let long : 12 ≤ length ns' = omega (arith, s.size, front_size ns h front) in
+        changing h (stay_front ns ns' h (subst (λ l. Stay l ns') front s))
+        (subst (λ b. Following ws (book_in ns) t c ws' (record { book = b; answer = r.answer; discarded = r.discarded })) (sym (book_back ns' (numbers.drop 12 ns) long))
+        (subst (λ b. Following ws b t c ws' (reply_in ns' r)) (ap book_in front ∙ book_front ns h) o))
+
+    -- with a lifetime that is no duration
+    pub nanos_front : {why : Refusal} → bad_nanos c ≡ true → why ≡ InvalidNanos → Changing ns ws t c (first ++ numbers.drop 12 ns) ws (saying (answers.Refused why))
+    nanos_front bad q = on_front first (stay_same first) (rw q (follow_nanos _ (book_in first) _ _ limits_front bad))
 
 -- a book that was read is the one that the numbers tell
 pub default_in_lem : (ns : List ℕ) {b : Expiring} → b ≡ book_in ns → {l : Option TtlTicks} → b.default_ttl ≡ l → (book_in ns).default_ttl ≡ l

@@ -2,10 +2,9 @@ use mathlib.Core.Path.{◌≡◌, sym, ◌∙◌}
 use native.Mathlib.Omega.{arith}
 use lib.ListN.{take}
 use Rattle.expiring.specs.Numbers.{book_in}
-use Rattle.expiring.proofs.Limits.{room_limits}
 use Rattle.expiring.proofs.Following.{follow_remove}
 use Rattle.lazy_heap.proofs.Calling.{handed_on}
-use Rattle.expiring.proofs.Changing.{admitted_ready, room_front, word_front, turned_back, on_front}
+use Rattle.expiring.proofs.Changing.{word_front, turned_back, limits_front, on_front}
 use Rattle.expiring.proofs.expiring.changes.try_remove.Goals as goal
 
 pub returns-in_err-admitted : goal.returns-in_err-admitted
@@ -13,9 +12,6 @@ returns-in_err-admitted c = rw (handed_on c.from_residual.ensures) (turned_back 
 
 pub returns : goal.returns
 returns c =
-    let ns = c.args.numbers.now in
-    let ready = admitted_ready ns (sym c.admitted.ensures ∙ c.in_ok-admitted.was) in
-    let first = c.unwrap-numbers.result.now in
-    let front : first ≡ take 12 ns = (rw c.unwrap-numbers.ensures at c.first_chunk_mut.ensures.cases).same in
-    let w = word_front ns front (omega (arith, c.slice_known-1.given 11)) in
-    on_front ns _ ready.numbers front c.remove_within.ensures.0 (follow_remove _ (book_in first) _ (room_limits (room_front ns front ready)) w c.remove_within.ensures.1)
+    let l = sym c.admitted.ensures ∙ c.in_ok-admitted.was in
+    let front : c.unwrap-numbers.result.now ≡ take 12 c.args.numbers.now = (rw c.unwrap-numbers.ensures at c.first_chunk_mut.ensures.cases).same in
+    on_front _ _ l front _ c.remove_within.ensures.0 (follow_remove _ (book_in c.unwrap-numbers.result.now) _ (limits_front _ _ l front) (word_front _ front (omega (arith, c.slice_known-1.given 11))) c.remove_within.ensures.1)
