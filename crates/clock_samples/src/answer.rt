@@ -1,7 +1,10 @@
 // What the crate `time` answers, as it is told.
+ghost use Rattle.std.specs.Prelude.{◌≡◌, Ok, Err};
+ghost use Rattle.time.specs.Clock.{clock_at, advanced, outcome_of, clock_after};
+
 use crate::question::Question;
 use std::fmt;
-use time::{MockClock, Refusal, Tick, duration_to_ticks};
+use time::{Duration, MockClock, Refusal, Tick, duration_to_ticks};
 
 #[derive(Clone, Copy)]
 pub enum Answer {
@@ -37,8 +40,7 @@ impl Answer {
             }
             Question::Set(tick) => {
                 let by_value = Step::to(clock.set(tick));
-                time::set(clock, tick);
-                let lent = Step::to(*clock);
+                let lent = Step::set(clock, tick);
                 Answer::Stepped { lent, by_value }
             }
             Question::Advance(d) => {
@@ -46,10 +48,7 @@ impl Answer {
                     Ok(after) => Step::to(after),
                     Err(why) => Step::refused(*clock, why),
                 };
-                let lent = match time::advance(clock, d) {
-                    Ok(()) => Step::to(*clock),
-                    Err(why) => Step::refused(*clock, why),
-                };
+                let lent = Step::advance(clock, d);
                 Answer::Stepped { lent, by_value }
             }
         };
@@ -58,17 +57,43 @@ impl Answer {
 }
 
 impl Step {
-    fn to(clock: MockClock) -> Step {
+    fn to(clock: MockClock) -> Step
+        ensures answer { result.answer ≡ Ok tt }
+        ensures tick { result.tick ≡ clock.tick }
+    {
         Step {
             answer: Ok(()),
             tick: clock.now(),
         }
     }
 
-    fn refused(clock: MockClock, why: Refusal) -> Step {
+    fn refused(clock: MockClock, why: Refusal) -> Step
+        ensures answer { result.answer ≡ Err why }
+        ensures tick { result.tick ≡ clock.tick }
+    {
         Step {
             answer: Err(why),
             tick: clock.now(),
+        }
+    }
+
+    // The steps in the lent form.
+    fn set(clock: &mut MockClock, tick: Tick) -> Step
+        ensures reached { clock.new ≡ clock_at tick.0 }
+        ensures told { result.tick ≡ clock.new.tick }
+    {
+        time::set(clock, tick);
+        Step::to(*clock)
+    }
+
+    fn advance(clock: &mut MockClock, delta: Duration) -> Step
+        ensures reached { clock.new ≡ clock_after clock.old (advanced clock.old delta) }
+        ensures answer { result.answer ≡ outcome_of (advanced clock.old delta) }
+        ensures told { result.tick ≡ clock.new.tick }
+    {
+        match time::advance(clock, delta) {
+            Ok(()) => Step::to(*clock),
+            Err(why) => Step::refused(*clock, why),
         }
     }
 }

@@ -7,7 +7,7 @@ const LONGEST: usize = 128;
 
 const KEPT: usize = LONGEST + 1;
 
-#[derive(Drop)]
+#[derive(Clone, Copy)]
 pub struct Line {
     text: [u8; KEPT],
     length: usize,
