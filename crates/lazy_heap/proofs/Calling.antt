@@ -162,7 +162,9 @@ module _ {ws ws' : List ℕ} {h h' : LazyMinHeap} {d : ℕ} where
 
   -- rebuilding where there are too many
   pub maybe_call : (f : ℕ) → heap_limits_with h.scores.capacity (length ws) f ≡ Ok tt → Trimming ws h f ws' h' d → RebuildingMaybe ws h f ws' h' (Ok d)
-  maybe_call f t k = discards_done t (λ is. k.parts is.parts) (λ is. k.model is.parts) (λ is. fair_maybe_rebuilt f (fair_heap is)) (same_capacity k.scores) k.kept (λ is. k.discarded is.parts)
+  maybe_call f t k =
+      let few = (with_room_lem h.scores.capacity (length ws) f t).1 in
+      discards_done t (λ is. k.parts is.parts) (λ is. k.model is.parts few) (λ is. fair_maybe_rebuilt f (fair_heap is)) (same_capacity k.scores) k.kept (λ is. k.discarded is.parts few)
 
 -- ---- the factor
 fair_factor : (f : ℕ) → f ≤ 8 → {m : Heap} → Fair m → Fair (with_factor f m)

@@ -162,31 +162,32 @@ module _ {ws : List ℕ} {h : LazyMinHeap} (word : h.seq < 2 ^ 64) where
     kept = kept_same h.scores.capacity ws;
   }
 
-module _ (ws : List ℕ) (h : LazyMinHeap) (f : ℕ) {b : Bool} (c : ltb (at_least_one f * h.scores.len) h.entries ≡ b) where
-  crowded : too_many f (model_of ws h) ≡ b
-  crowded =
+module _ (ws : List ℕ) (h : LazyMinHeap) (f : ℕ) where
+  crowded : {b : Bool} → ltb (at_least_one f * h.scores.len) h.entries ≡ b → too_many f (model_of ws h) ≡ b
+  crowded c =
       ap (λ (n : ℕ). ltb (at_least_one f * n) (length (entries_of ws h))) (model_length ws h.scores)
       ∙ ap (λ (n : ℕ). ltb (at_least_one f * h.scores.len) n) (array-length (part h.scores.capacity ws) h.entries)
       ∙ c
 
-  pub trimming_rebuilt : {ws' : List ℕ} {h' : LazyMinHeap} {d : ℕ} → b ≡ true → Rebuilding ws h ws' h' d → Trimming ws h f ws' h' d
+  pub trimming_rebuilt : {ws' : List ℕ} {h' : LazyMinHeap} {d : ℕ} → ltb (at_least_one f * h.scores.len) h.entries ≡ true → Rebuilding ws h ws' h' d → Trimming ws h f ws' h' d
   unfolding maybe_rebuilt
   trimming_rebuilt t k = record {
     scores = k.entered.scores;
     parts = k.parts;
-    model = λ p. rebuilt_model k p ∙ sym (ap (λ (u : Bool). cond u (rebuilt (model_of ws h)) (model_of ws h)) (crowded ∙ t));
-    discarded = λ p. k.discarded ∙ sym (surplus_is ws h) ∙ sym (ap (λ (u : Bool). cond u (surplus (model_of ws h)) 0) (crowded ∙ t));
+    model = λ p g. rebuilt_model k p ∙ sym (ap (λ (u : Bool). cond u (rebuilt (model_of ws h)) (model_of ws h)) (crowded t));
+    discarded = λ p g. k.discarded ∙ sym (surplus_is ws h) ∙ sym (ap (λ (u : Bool). cond u (surplus (model_of ws h)) 0) (crowded t));
     small = omega (arith, k.discarded);
     kept = k.entered.kept;
   }
 
-  pub trimming_same : b ≡ false → Trimming ws h f ws h 0
+  -- also where the factor or the keys are beyond the limits: such numbers are no heap's
+  pub trimming_same : (Parts ws h → f ≤ 8 → ltb (at_least_one f * h.scores.len) h.entries ≡ false) → Trimming ws h f ws h 0
   unfolding maybe_rebuilt
   trimming_same t = record {
     scores = refl;
     parts = λ p. p;
-    model = λ p. sym (ap (λ (u : Bool). cond u (rebuilt (model_of ws h)) (model_of ws h)) (crowded ∙ t));
-    discarded = λ p. sym (ap (λ (u : Bool). cond u (surplus (model_of ws h)) 0) (crowded ∙ t));
+    model = λ p g. sym (ap (λ (u : Bool). cond u (rebuilt (model_of ws h)) (model_of ws h)) (crowded (t p g)));
+    discarded = λ p g. sym (ap (λ (u : Bool). cond u (surplus (model_of ws h)) 0) (crowded (t p g)));
     small = omega arith;
     kept = kept_same h.scores.capacity ws;
   }

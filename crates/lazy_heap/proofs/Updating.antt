@@ -9,7 +9,7 @@ use native.Mathlib.Nat.{mul-le-mul}
 use lib.Dec.{eqb, leb}
 use lib.ListN.{length}
 use borrow.Author.Tests.{lt-ltb, le-leb, eqb-false}
-use Rattle.std.specs.Prelude.{Option, Some, Ok, Err, min}
+use Rattle.std.specs.Prelude.{Option, Some, Ok, Err}
 use Rattle.cells.specs.declared.Probe.{Probe}
 use Rattle.cells.specs.declared.Probe.TheVariants.{At, Free, Full}
 use Rattle.rings.proofs.Counts.{by_lt}
@@ -27,7 +27,7 @@ use Rattle.lazy_heap.specs.Words.{part, Room}
 use Rattle.lazy_heap_model.specs.Model.{Heap, entry_of, at_least_one, surplus, too_many, numbered, held_score, is_full, before_push, renumbered, pushed, rebuilt, maybe_rebuilt, updated, update_discards}
 use Rattle.lazy_heap.specs.Valid.{Valid}
 use Rattle.lazy_heap.specs.Heap.{entries_of, model_of, Parts, IsHeap}
-use Rattle.lazy_heap.specs.Steps.{is_over, Fitting, Holding, Trimming}
+use Rattle.lazy_heap.specs.Steps.{is_over, sum, Fitting, Holding, Trimming}
 use Rattle.lazy_heap.specs.Calls.{counted, Updating}
 use Rattle.lazy_heap.proofs.Helds.{length_without_le}
 use Rattle.lazy_heap.proofs.Valid.{valid_rebuilt, valid_pushed, live_length, numbered_length, numbered_has}
@@ -137,6 +137,9 @@ fair_fit g n v b f e = go (too_many g n) refl
       factor = f;
     }
 
+sum_small : {a c : ℕ} → a ≤ 32769 → c ≤ 32769 → sum a c ≡ a + c
+sum_small {a} {c} p q = rw (le-leb a 32769 p, le-leb c 32769 q)
+
 module _ {ws ws₁ ws₂ ws' : List ℕ} {h h₁ h₂ h' : LazyMinHeap} {k s a c : ℕ} {b : Option ℕ} (fit : Fitting ws h ws₁ h₁ a) (hold : Holding ws₁ h₁ k s ws₂ h₂ b) (trim : Trimming ws₂ h₂ h₂.factor ws' h' c) (ok : Room (length ws) h.scores.capacity) where
   module _ (is : IsHeap ws h) (new : is_full k (model_of ws h) ≡ false) where
     abbrev m : Heap
@@ -169,9 +172,12 @@ module _ {ws ws₁ ws₂ ws' : List ℕ} {h h₁ h₂ h' : LazyMinHeap} {k s a c
     factor₂ : h₂.factor ≡ h.factor
     factor₂ = hold.factor ∙ fit.factor
 
+    few_factor : h₂.factor ≤ 8
+    few_factor = omega (arith, factor₂, is.factor)
+
     third_is : model_of ws' h' ≡ updated k s m
     unfolding updated
-    third_is = trim.model parts₂ ∙ (λ i. maybe_rebuilt (factor₂ i) (second_is i))
+    third_is = trim.model parts₂ few_factor ∙ (λ i. maybe_rebuilt (factor₂ i) (second_is i))
 
     fair₃ : Fair (updated k s m)
     unfolding updated
@@ -188,26 +194,29 @@ module _ {ws ws₁ ws₂ ws' : List ℕ} {h h₁ h₂ h' : LazyMinHeap} {k s a c
     answer₃ : b ≡ held_score (lookup k m.held)
     answer₃ = hold.answer (fit.parts is.parts) new₁ ∙ ap (λ (n : Heap). held_score (lookup k n.held)) first_is ∙ is_ready.score
 
-    -- both counts are small, so that their sum is one
-    few₃ : a + c ≤ 2 ^ 64 - 1
-    few₃ =
+    -- both counts are those of a heap, so that they are added
+    few_first : a ≤ 32769
+    few_first = omega (arith, fit.small, is.few, ok.limit)
+
+    few_second : c ≤ 32769
+    few_second =
         let n = h₂.scores.capacity in
         let e : length (entries_of ws₂ h₂) ≡ length (pushed k s m₁).entries = ap (λ (x : Heap). length x.entries) second_is in
-        omega (arith, fit.small, is.few, ok.limit, trim.small, array-length (part n ws₂) h₂.entries, e, push_length k s m₁, is_ready.fair.few, is_ready.limit)
+        omega (arith, trim.small, array-length (part n ws₂) h₂.entries, e, push_length k s m₁, is_ready.fair.few, is_ready.limit, ok.limit)
 
     discarded₃ : a + c ≡ update_discards k s m
     unfolding update_discards
     discarded₃ =
         ap (λ (x : ℕ). x + c) (fit.discarded is.parts)
-        ∙ ap (λ (x : ℕ). cond (eqb h.seq (2 ^ 64 - 1)) (surplus m) 0 + x) (trim.discarded parts₂ ∙ (λ i. cond (too_many (factor₂ i) (second_is i)) (surplus (second_is i)) 0))
+        ∙ ap (λ (x : ℕ). cond (eqb h.seq (2 ^ 64 - 1)) (surplus m) 0 + x) (trim.discarded parts₂ few_factor ∙ (λ i. cond (too_many (factor₂ i) (second_is i)) (surplus (second_is i)) 0))
 
-  pub updating : {d : ℕ} → (Parts ws h → is_full k (model_of ws h) ≡ false) → d ≡ min (a + c) (2 ^ 64 - 1) → Updating ws h k s ws' h' (Ok (counted b d))
-  updating {d} room sum = record {
+  pub updating : {d : ℕ} → (Parts ws h → is_full k (model_of ws h) ≡ false) → d ≡ sum a c → Updating ws h k s ws' h' (Ok (counted b d))
+  updating {d} room add = record {
     outcome = inl (sym (room_limits ok));
     refused = λ why q. cc;
     answer = λ is.
         let new = room is.parts in
-        let total : d ≡ update_discards k s (model_of ws h) = omega (arith, few₃ is new, discarded₃ is new) in
+        let total : d ≡ update_discards k s (model_of ws h) = add ∙ sum_small (few_first is new) (few_second is new) ∙ discarded₃ is new in
         (λ i. Ok (counted (answer₃ is new i) (total i))) ∙ sym (rw new);
     heap = λ is. heap₃ is (room is.parts);
     model = λ is new. third_is is new;

