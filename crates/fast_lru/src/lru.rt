@@ -253,7 +253,8 @@ impl FastLru {
     }
 
     // Walks from the first item's slot and from the last one's until they meet, with no look at a key. (Numbers that
-    // are no list's may say more items than there is room for: those are not walked.)
+    // are no list's may say more items than there is room for: those are not walked. A step is a `let .. else`: by
+    // `?` it is compiled to a select between the load of one link and that of the next, and takes a quarter longer.)
     fn rank_between(self, words: &[u64], slot: usize, first: usize, last: usize) -> Option<usize>
         ensures { RankBetween words.now self slot first last result }
     {
@@ -271,8 +272,14 @@ impl FastLru {
             if back == slot {
                 return Some(back_rank);
             }
-            front = self.map.next(words, front).unwrap_or(None)?;
-            back = self.map.previous(words, back).unwrap_or(None)?;
+            let Ok(Some(next)) = self.map.next(words, front) else {
+                return None;
+            };
+            let Ok(Some(previous)) = self.map.previous(words, back) else {
+                return None;
+            };
+            front = next;
+            back = previous;
         }
         None
     }
