@@ -48,21 +48,13 @@ pub fn turn(
             let said = expiring::remove(numbers, words, asked.tick, asked.key);
             tell::store_said(answers, i, said);
         }
-        4 => {
-            let asked = asked_at(calls, i);
-            let reply = expiring::book_in(numbers).clear(words, asked.tick);
-            tell::store_reply(numbers, answers, i, reply);
-        }
+        4 => clear(numbers, words, calls, answers, i),
         5 => {
             let asked = asked_at(calls, i);
             let said = expiring::set_ttl(numbers, words, asked.tick, asked.key, asked.ttl);
             tell::store_said(answers, i, said);
         }
-        6 => {
-            let asked = asked_at(calls, i);
-            let reply = expiring::book_in(numbers).purge_expired(words, asked.tick);
-            tell::store_reply(numbers, answers, i, reply);
-        }
+        6 => purge_expired(numbers, words, calls, answers, i),
         7 => {
             let asked = asked_at(calls, i);
             let reply = expiring::book_in(numbers).next_deadline(words, asked.tick);
@@ -93,11 +85,7 @@ pub fn turn(
             let reply = expiring::book_in(numbers).ttl_status(words, asked.tick, asked.key);
             tell::store_answer(answers, i, reply);
         }
-        13 => {
-            let asked = asked_at(calls, i);
-            let reply = expiring::book_in(numbers).recency_rank(words, asked.tick, asked.key);
-            tell::store_answer(answers, i, reply);
-        }
+        13 => recency_rank(numbers, words, calls, answers, i),
         14 => {
             let asked = asked_at(calls, i);
             let reply = expiring::book_in(numbers).live_len(words, asked.tick);
@@ -114,4 +102,48 @@ pub fn turn(
             tell::store_answer(answers, i, reply);
         }
     }
+}
+
+// The three calls that are no part of the turn: the book's own functions for these are not compiled in place, so that
+// numbers and reply go through memory, and in the loop that memory would be cleared at each turn, of whatever call.
+#[inline(never)]
+fn clear(numbers: &mut [u64], words: &mut [u64], calls: &[u64], answers: &mut [u64], i: usize)
+    requires { (12 ≤ length numbers.old) × (6 * i + 6 ≤ length calls.now) × (4 * i + 4 ≤ length answers.old) × ((asked_at calls.now i).operation ≡ 4) }
+    ensures { Turn (asked_at calls.now i) i numbers.old words.old answers.old numbers.new words.new answers.new }
+{
+    let asked = asked_at(calls, i);
+    let reply = expiring::book_in(numbers).clear(words, asked.tick);
+    tell::store_reply(numbers, answers, i, reply);
+}
+
+#[inline(never)]
+fn purge_expired(
+    numbers: &mut [u64],
+    words: &mut [u64],
+    calls: &[u64],
+    answers: &mut [u64],
+    i: usize,
+)
+    requires { (12 ≤ length numbers.old) × (6 * i + 6 ≤ length calls.now) × (4 * i + 4 ≤ length answers.old) × ((asked_at calls.now i).operation ≡ 6) }
+    ensures { Turn (asked_at calls.now i) i numbers.old words.old answers.old numbers.new words.new answers.new }
+{
+    let asked = asked_at(calls, i);
+    let reply = expiring::book_in(numbers).purge_expired(words, asked.tick);
+    tell::store_reply(numbers, answers, i, reply);
+}
+
+#[inline(never)]
+fn recency_rank(
+    numbers: &mut [u64],
+    words: &mut [u64],
+    calls: &[u64],
+    answers: &mut [u64],
+    i: usize,
+)
+    requires { (12 ≤ length numbers.old) × (6 * i + 6 ≤ length calls.now) × (4 * i + 4 ≤ length answers.old) × ((asked_at calls.now i).operation ≡ 13) }
+    ensures { Turn (asked_at calls.now i) i numbers.old words.old answers.old numbers.new words.new answers.new }
+{
+    let asked = asked_at(calls, i);
+    let reply = expiring::book_in(numbers).recency_rank(words, asked.tick, asked.key);
+    tell::store_answer(answers, i, reply);
 }

@@ -21,21 +21,13 @@ pub returns-in-3 : goal.returns-in-3
 unfolding call_of
 returns-in-3 c = changing c.args.numbers.now c.remove-said.new.numbers {a = asked_at c.args.calls.now c.args.i} c.requires.0 (sym c.requires.3 ∙ c.in-3.is) refl (omega arith) (rw c.asked_at-asked-in-3.ensures at c.remove-said.ensures) c.store_said-in-3.ensures
 
-pub returns-in-4 : goal.returns-in-4
-unfolding call_of
-returns-in-4 c = changed {a = asked_at c.args.calls.now c.args.i} (sym c.requires.3 ∙ c.in-4.is) refl c.book_in.ensures (omega arith) (rw c.asked_at-asked-in-4.ensures at c.clear-reply.ensures) c.store_reply.ensures
-
 pub returns-in-5 : goal.returns-in-5
 unfolding call_of
 returns-in-5 c = changing c.args.numbers.now c.set_ttl-said.new.numbers {a = asked_at c.args.calls.now c.args.i} c.requires.0 (sym c.requires.3 ∙ c.in-5.is) refl (omega arith) (rw c.asked_at-asked-in-5.ensures at c.set_ttl-said.ensures) c.store_said-in-5.ensures
 
-pub returns-in-6 : goal.returns-in-6
-unfolding call_of
-returns-in-6 c = changed {a = asked_at c.args.calls.now c.args.i} (sym c.requires.3 ∙ c.in-6.is) refl c.book_in-in-6.ensures (omega arith) (rw c.asked_at-asked-in-6.ensures at c.purge_expired-reply.ensures) c.store_reply-in-6.ensures
-
 pub returns-in-7 : goal.returns-in-7
 unfolding call_of
-returns-in-7 c = changed {a = asked_at c.args.calls.now c.args.i} (sym c.requires.3 ∙ c.in-7.is) refl c.book_in-in-7.ensures (omega arith) (rw c.asked_at-asked-in-7.ensures at c.next_deadline-reply.ensures) c.store_reply-in-7.ensures
+returns-in-7 c = changed {a = asked_at c.args.calls.now c.args.i} (sym c.requires.3 ∙ c.in-7.is) refl c.book_in.ensures (omega arith) (rw c.asked_at-asked-in-7.ensures at c.next_deadline-reply.ensures) c.store_reply.ensures
 
 pub returns-in-8 : goal.returns-in-8
 unfolding call_of
@@ -56,10 +48,6 @@ returns-in-11 c = looked {a = asked_at c.args.calls.now c.args.i} (sym c.require
 pub returns-in-12 : goal.returns-in-12
 unfolding call_of
 returns-in-12 c = looked {a = asked_at c.args.calls.now c.args.i} (sym c.requires.3 ∙ c.in-12.is) refl c.book_in-in-12.ensures (omega arith) (rw c.asked_at-asked-in-12.ensures at c.ttl_status-reply.ensures) c.store_answer-in-12.ensures
-
-pub returns-in-13 : goal.returns-in-13
-unfolding call_of
-returns-in-13 c = looked {a = asked_at c.args.calls.now c.args.i} (sym c.requires.3 ∙ c.in-13.is) refl c.book_in-in-13.ensures (omega arith) (rw c.asked_at-asked-in-13.ensures at c.recency_rank-reply.ensures) c.store_answer-in-13.ensures
 
 pub returns-in-14 : goal.returns-in-14
 unfolding call_of
