@@ -138,6 +138,7 @@ fn ttl(line: &[u8]) -> Option<Call>
 
 // The number of a call that has one, from the call's name on.
 #[tactic(auto, using(crate::proofs::Wholes::only_is))]
+#[inline(always)]
 fn only_number(line: &[u8], name: &[u8]) -> Option<u64>
     ensures { ReadsOnly line.now name.now result }
 {
@@ -146,6 +147,7 @@ fn only_number(line: &[u8], name: &[u8]) -> Option<u64>
 
 // A call that has no number, from its name on.
 #[tactic(auto, using(crate::proofs::Wholes::named_is, text::proofs::Laws::ends_is))]
+#[inline(always)]
 fn only_name(line: &[u8], name: &[u8], call: Call) -> Option<Call>
     ensures { ReadsName line.now name.now call result }
 {
@@ -154,6 +156,7 @@ fn only_name(line: &[u8], name: &[u8], call: Call) -> Option<Call>
 
 // The two numbers of a lifetime that ends a line, with a text before them and one behind them.
 #[tactic(auto, using(crate::proofs::Wholes::no_secs, crate::proofs::Wholes::no_nanos, crate::proofs::Wholes::both_read))]
+#[inline(always)]
 fn two_numbers(line: &[u8], before: &[u8], behind: &[u8]) -> Option<Lifetime>
     ensures { ReadsLifetime line.now before.now behind.now result }
 {

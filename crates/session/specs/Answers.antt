@@ -61,11 +61,11 @@ Prints out a c out' r = Puts out 0 (line_of a c) out' r
 unfoldable pub head_of : Answer → List ℕ
 head_of a = fill (bytes "(" ++ bytes (format_of a)) (numbers_of a)
 
--- the same by its name and its numbers
+-- the same by its name, with the brackets before it, and its numbers
 abbrev pub shaped : Shape → List ℕ
-shaped (shape.Name n) = bytes "(" ++ n.now
-shaped (shape.One n a) = bytes "((" ++ (n.now ++ (bytes " " ++ decimal a ++ bytes ")"))
-shaped (shape.Two n a b) = bytes "((" ++ (n.now ++ (bytes " " ++ decimal a ++ (bytes " " ++ decimal b ++ bytes ")")))
+shaped (shape.Name n) = n.now
+shaped (shape.One n a) = (n.now ++ decimal a) ++ bytes ")"
+shaped (shape.Two n a b) = (n.now ++ decimal a) ++ ((bytes " " ++ decimal b) ++ bytes ")")
 
 unfoldable pub tail_of : Counts → List ℕ
 tail_of c = fill (bytes " (thrown 0) (heap 0) (held 0))\n") (c.discarded ∷ c.heap ∷ c.held ∷ [])

@@ -26,7 +26,7 @@ pub fn print(out: &mut [u8], answer: Answer, counts: Counts) -> usize
     line.at
 }
 
-// An answer as it is printed: its name, and the numbers behind it.
+// An answer as it is printed: its name, with the brackets before it, and the numbers behind it.
 #[derive(Clone, Copy)]
 enum Shape<'a> {
     Name(&'a [u8]),
@@ -38,20 +38,20 @@ fn shape_of(answer: Answer) -> Shape<'static>
     ensures { shaped result ≡ head_of answer }
 {
     match answer {
-        Answer::Nothing => Shape::Name(b"none"),
-        Answer::Value(v) => Shape::One(b"value", v),
-        Answer::Yes => Shape::Name(b"yes"),
-        Answer::No => Shape::Name(b"no"),
-        Answer::Missing => Shape::Name(b"missing"),
-        Answer::Immortal => Shape::Name(b"immortal"),
-        Answer::Expired => Shape::Name(b"expired"),
-        Answer::Live(ttl, deadline) => Shape::Two(b"live", ttl.0, deadline.0),
-        Answer::Count(n) => Shape::One(b"count", n),
-        Answer::Due(key, deadline) => Shape::Two(b"due", key, deadline.0),
-        Answer::Item(key, value) => Shape::Two(b"item", key, value),
-        Answer::Rank(n) => Shape::One(b"rank", n),
-        Answer::Done => Shape::Name(b"done"),
-        Answer::Refused(why) => Shape::One(b"refused", why.number()),
+        Answer::Nothing => Shape::Name(b"(none"),
+        Answer::Value(v) => Shape::One(b"((value ", v),
+        Answer::Yes => Shape::Name(b"(yes"),
+        Answer::No => Shape::Name(b"(no"),
+        Answer::Missing => Shape::Name(b"(missing"),
+        Answer::Immortal => Shape::Name(b"(immortal"),
+        Answer::Expired => Shape::Name(b"(expired"),
+        Answer::Live(ttl, deadline) => Shape::Two(b"((live ", ttl.0, deadline.0),
+        Answer::Count(n) => Shape::One(b"((count ", n),
+        Answer::Due(key, deadline) => Shape::Two(b"((due ", key, deadline.0),
+        Answer::Item(key, value) => Shape::Two(b"((item ", key, value),
+        Answer::Rank(n) => Shape::One(b"((rank ", n),
+        Answer::Done => Shape::Name(b"(done"),
+        Answer::Refused(why) => Shape::One(b"((refused ", why.number()),
     }
 }
 
@@ -60,20 +60,13 @@ fn head(line: &mut Writer, shape: Shape)
     ensures { Writes line.old (shaped shape.entry) line.new }
 {
     match shape {
-        Shape::Name(name) => {
-            line.put(b"(");
-            line.put(name);
-        }
+        Shape::Name(name) => line.put(name),
         Shape::One(name, number) => {
-            line.put(b"((");
-            line.put(name);
-            field(line, b" ", number);
+            field(line, name, number);
             line.put(b")");
         }
         Shape::Two(name, first, second) => {
-            line.put(b"((");
-            line.put(name);
-            field(line, b" ", first);
+            field(line, name, first);
             field(line, b" ", second);
             line.put(b")");
         }

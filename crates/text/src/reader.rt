@@ -5,6 +5,7 @@ use crate::number;
 
 // The number behind a text that a line starts with, and what the line has behind it.
 #[tactic(auto, using(crate::proofs::Formats::starts_none, crate::proofs::Formats::starts_some))]
+#[inline(always)]
 pub fn number_after<'a>(line: &'a [u8], text: &[u8]) -> Option<(u64, &'a [u8])>
     ensures { ReadsAfter line.now text.now result }
 {
@@ -13,6 +14,7 @@ pub fn number_after<'a>(line: &'a [u8], text: &[u8]) -> Option<(u64, &'a [u8])>
 
 // The number that a line has between two texts, where they are all of it.
 #[tactic(auto, using(crate::proofs::Formats::ends_is))]
+#[inline(always)]
 pub fn number_between(line: &[u8], before: &[u8], behind: &[u8]) -> Option<u64>
     ensures { ReadsBetween line.now before.now behind.now result }
 {

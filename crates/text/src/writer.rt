@@ -37,6 +37,7 @@ pub struct Writer<'a> {
 impl<'a> Writer<'a> {
     // Writes a text. Where there is no room for it, it writes nothing and is at the end of what is lent.
     #[tactic(auto, using(crate::proofs::Stores::puts_text))]
+    #[inline(always)]
     pub fn put(&mut self, text: &[u8])
         ensures { Writes self.old text.now self.new }
     {
