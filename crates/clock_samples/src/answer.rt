@@ -80,6 +80,7 @@ impl Step {
     // The steps in the lent form.
     fn set(clock: &mut MockClock, tick: Tick) -> Step
         ensures reached { clock.new ≡ clock_at tick.0 }
+        ensures answer { result.answer ≡ Ok tt }
         ensures told { result.tick ≡ clock.new.tick }
     {
         time::set(clock, tick);

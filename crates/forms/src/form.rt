@@ -1,4 +1,5 @@
-// The forms, and the parser: a line is read as the form whose text it is.
+// The forms, and the parser: a line is read as the form whose text it is. What reads a text that is given is compiled
+// in place, so that it is compared by a length that is known there.
 ghost use Rattle.std.specs.Prelude.{◌≡◌};
 ghost use Rattle.forms.specs.Forms.{Reads};
 ghost use Rattle.forms.specs.Reading.{ReadsTick, ReadsOnly, ReadsName, ReadsLifetime, book_in, call_in, put_in, peek_in, ttl_in};

@@ -1,4 +1,5 @@
-// Reading by pieces: a text that a line starts with, and a number behind it.
+// Reading by pieces: a text that a line starts with, and a number behind it. Compiled in place: a caller's text is
+// compared by a length that is known there.
 ghost use Rattle.text.specs.Reading.{ReadsAfter, ReadsBetween};
 
 use crate::number;

@@ -35,7 +35,8 @@ pub struct Writer<'a> {
 }
 
 impl<'a> Writer<'a> {
-    // Writes a text. Where there is no room for it, it writes nothing and is at the end of what is lent.
+    // Writes a text. Where there is no room for it, it writes nothing and is at the end of what is lent. (Compiled in
+    // place: a caller's text is copied by a length that is known there.)
     #[tactic(auto, using(crate::proofs::Stores::puts_text))]
     #[inline(always)]
     pub fn put(&mut self, text: &[u8])

@@ -245,8 +245,8 @@ fn refusals_at_their_edges() {
     }
 }
 
-/// Answers are free on such numbers. These are what the library has always answered, so that no
-/// change of them goes unseen: nothing is rebuilt, and no count beyond a heap's is told.
+/// Answers are free on such numbers. These are the answers from before docs/DESIGN-PASS.md, so that
+/// no change of them goes unseen: nothing is rebuilt, and no count beyond a heap's is told.
 #[test]
 fn numbers_that_no_call_stores() {
     let mut words = [0; 192];
